@@ -1,0 +1,2 @@
+pub mod If
+pub mod Upto

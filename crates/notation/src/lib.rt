@@ -1,0 +1,1 @@
+// No code: the words that all definitions share, in specs/.
