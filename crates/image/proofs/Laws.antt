@@ -1,0 +1,163 @@
+-- Laws of the loops' turns, of the chain of checks and of the bytes that are written
+use mathlib.Core.Path.{_≡_, refl, ap, _∙_}
+use mathlib.Core.Bool.{Bool, true, false, not, _&&_}
+use mathlib.Core.List.{List, []}
+use Prim.Native.Nat.{ℕ, _+_, _-_, _*_, _/_, _%_, _<_, _≤_}
+use native.Mathlib.Omega.{arith}
+use native.Mathlib.Numerals.{add-one}
+use borrow.Author.Tests.{ltb-false, eqb-true, eqb-false, ne-eqb, not-false}
+use borrow.Rule.Slice.PartMut.{putMid}
+use lib.Dec.{eqb}
+use lib.ListN.{length, set}
+use Rattle.image.specs.declared.head.Header.{Header}
+use Rattle.image.specs.declared.table.Refusal.{Refusal}
+use Rattle.image.specs.declared.table.Check.{Check}
+use Rattle.image.specs.declared.table.Check.the-variants.{Passed, Failed}
+use Rattle.notation.specs.Upto.{sumTo, allTo, listTo, laid}
+use Rattle.notation.proofs.Upto.{neither, list-same, laid-more, laid-part, length-laid}
+use Rattle.image.specs.Refusal.{Reply, taken, refused, _then_, refusedBy, checkSays}
+use Rattle.image.specs.Block.{wordAt}
+use Rattle.image.specs.Header.{goodHeader, codeBlocks}
+use Rattle.image.specs.Read.{refuse, refusal1, refusal2, refusal3, refusal4, refusal5, refusal10, checks, written}
+use Rattle.image.specs.Write.{body, check, blockWord, blockByte, imageByte, imageLength, writeChecks}
+
+-- ---- turns of a loop: a wrapping sum, a test of all
+pub sum-more : (f : ℕ → ℕ) (k s x : ℕ) → s ≡ sumTo f k % 65536 → x ≡ f k → (s + x) % 65536 ≡ sumTo f (k + 1) % 65536
+unfolding sumTo
+sum-more f k s x e h = rw add-one (omega arith)
+
+pub all-more : (p : ℕ → Bool) (k : ℕ) (ok now : Bool) → ok ≡ allTo p k → now ≡ p k → ok && now ≡ allTo p (k + 1)
+unfolding allTo
+all-more p k ok now e h = rw (add-one, ← e, ← h)
+
+-- the part from a to a + 512 is 512 long
+pub width-512 : (a : ℕ) → a + 512 - a ≡ 512
+width-512 a = omega arith
+
+-- ---- a check answers by its test, and its answer tells the test
+pub fails : (n : ℕ) (bad : Bool) → bad ≡ true → refused n [] ≡ refuse n bad
+fails n bad e = rw e
+
+pub passes : (n : ℕ) (bad : Bool) → bad ≡ false → taken [] ≡ refuse n bad
+passes n bad e = rw e
+
+taken-isnt-refused : {X : Type 0} (vs ws : List ℕ) (n : ℕ) → taken vs ≡ refused n ws → X
+taken-isnt-refused vs ws n e = let z : _≡_ {A = ℕ} 0 1 = cc in absurd (omega arith)
+
+pub passed : (n : ℕ) (bad : Bool) (vs : List ℕ) → taken vs ≡ refuse n bad → bad ≡ false
+passed n true vs e = taken-isnt-refused vs [] n e
+passed n false vs e = refl
+
+-- ---- the chain of checks: one that failed ends it, one that passed hands it on
+pub ends : (k : Check) (x : Refusal) (r next : Reply) → checkSays k ≡ r → k ≡ Failed x → checkSays k ≡ r then next
+ends k x r next e t = rw (← e, t)
+
+pub goes-on : (k : Check) (r x next : Reply) → checkSays k ≡ r → k ≡ Passed → x ≡ next → x ≡ r then next
+goes-on k r x next e t h = rw (← e, t) h
+
+pub both-taken : (vs : List ℕ) (r next : Reply) → taken vs ≡ r then next → ((ws : List ℕ) × (taken ws ≡ r)) × (taken vs ≡ next)
+both-taken vs (taken ws) next e = ((ws, refl), e)
+both-taken vs (refused n ws) next e = taken-isnt-refused vs ws n e
+
+-- ---- what the end of the whole chain means for the answer and for what is written
+pub refuses :
+    (k : Check) (x : Refusal) (r last : Reply) (new old : List ℕ) →
+    checkSays k ≡ r → k ≡ Failed x → (refusedBy x ≡ r then last) × (old ≡ written (r then last) new old)
+refuses k x r last new old e t = (rw (← e, t), rw (← e, t))
+
+pub accepts :
+    (k : Check) (r says : Reply) (vs now new old : List ℕ) →
+    checkSays k ≡ r → k ≡ Passed → says ≡ taken vs → now ≡ new →
+    (says ≡ r then taken vs) × (now ≡ written (r then taken vs) new old)
+accepts k r says vs now new old e t s w = (rw (← e, t) s, rw (← e, t) w)
+
+-- ---- what a passed check says of the numbers
+pub one-block-long : (len : ℕ) (vs : List ℕ) → taken vs ≡ refusal1 len → 512 ≤ len
+unfolding refusal1
+one-block-long len vs e =
+    let z : (eqb len 0 ≡ false) × (not (eqb (len % 512) 0) ≡ false) = neither _ _ (passed 1 _ vs e) in
+    omega (arith, eqb-false len 0 (z .0), eqb-true (len % 512) 0 (not-false _ (z .1)))
+
+pub code-inside : (len n : ℕ) (vs : List ℕ) → taken vs ≡ refusal4 len n → 512 * (1 + codeBlocks n) ≤ len
+unfolding refusal4
+code-inside len n vs e = omega (arith, eqb-true (len / 512) (1 + codeBlocks n) (not-false _ (passed 4 _ vs e)))
+
+pub size-fits : (room size : ℕ) (vs : List ℕ) → taken vs ≡ refusal10 room size → size ≤ room
+unfolding refusal10
+size-fits room size vs e = ltb-false room size (passed 10 _ vs e)
+
+pub accepted-fits :
+    (bytes : List ℕ) (room : ℕ) (vs : List ℕ) →
+    taken vs ≡ checks bytes (taken []) room →
+    (512 ≤ length bytes) × (512 * (1 + codeBlocks (wordAt bytes 2)) ≤ length bytes) × (wordAt bytes 2 ≤ room)
+unfolding checks
+accepted-fits bytes room vs e =
+    let p1 = both-taken vs (refusal1 (length bytes)) _ e in
+    let p2 = both-taken vs (refusal2 bytes) _ (p1 .1) in
+    let p3 = both-taken vs (refusal3 bytes) _ (p2 .1) in
+    let p4 = both-taken vs (refusal4 (length bytes) (wordAt bytes 2)) _ (p3 .1) in
+    let p5 = both-taken vs (refusal5 bytes (wordAt bytes 2)) _ (p4 .1) in
+    (one-block-long _ _ (p1 .0 .1), code-inside _ _ _ (p4 .0 .1), size-fits _ _ _ (p5 .1))
+
+pub image-fits : (h : Header) (words room : ℕ) (vs : List ℕ) → taken vs ≡ writeChecks h words room → imageLength (h .length) ≤ room
+unfolding writeChecks
+image-fits h words room vs e =
+    let p1 = both-taken vs (refuse 3 (not (goodHeader h))) _ e in
+    let p2 = both-taken vs (refuse 6 (not (eqb words (h .length)))) _ (p1 .1) in
+    size-fits _ _ _ (p2 .1)
+
+-- ---- a block as it is written, word by word
+module _ (h : Header) (code : List ℕ) (i j : ℕ) where
+  low-half : blockByte h code i (2 * j) ≡ blockWord h code i j % 256
+  low-half =
+      let r : 2 * j % 2 ≡ 0 = omega arith in
+      let q : 2 * j / 2 ≡ j = omega arith in
+      rw (r, q)
+
+  high-half : blockByte h code i (2 * j + 1) ≡ blockWord h code i j / 256
+  high-half =
+      let r : (2 * j + 1) % 2 ≡ 1 = omega arith in
+      let q : (2 * j + 1) / 2 ≡ j = omega arith in
+      rw (r, q)
+
+-- words 0 to 254 are the body, word 255 the check
+pub body-word : (h : Header) (code : List ℕ) (i j : ℕ) → j < 255 → body h code i j ≡ blockWord h code i j
+unfolding blockWord
+body-word h code i j l = let n : j ≡ 255 → ⊥ = λ e. omega arith in rw (ne-eqb j 255 n)
+
+pub check-word : (h : Header) (code : List ℕ) (i : ℕ) → check h code i ≡ blockWord h code i 255
+unfolding blockWord
+check-word h code i = refl
+
+-- one word more
+pub word-more :
+    (h : Header) (code : List ℕ) (i j w : ℕ) (l : List ℕ) →
+    let f : ℕ → ℕ = blockByte h code i in
+    2 * j + 1 < length l → w ≡ blockWord h code i j →
+    set (set (laid f (2 * j) l) (2 * j) (w % 256)) (2 * j + 1) (w / 256) ≡ laid f (2 * (j + 1)) l
+word-more h code i j w l m e =
+    let z : 2 * (j + 1) ≡ 2 * j + 1 + 1 = omega arith in
+    rw
+    (e, ← low-half h code i j, ← high-half h code i j, z, laid-more (blockByte h code i) (2 * j) l (omega arith))
+    (laid-more (blockByte h code i) (2 * j + 1) l m)
+
+-- ---- one block more of the image
+pub block-more :
+    (h : Header) (code : List ℕ) (i : ℕ) (out out₀ part : List ℕ) →
+    let new : List ℕ = putMid (512 * i) (512 * i + 512 - 512 * i) out part in
+    out ≡ laid (imageByte h code) (512 * i) out₀ → part ≡ listTo (blockByte h code i) 512 → 512 * i + 512 ≤ length out₀ →
+    (length new ≡ length out₀) × (new ≡ laid (imageByte h code) (512 * (i + 1)) out₀)
+block-more h code i out out₀ part e p m = (ap length grown ∙ length-laid _ _ _ (omega arith), grown)
+  where
+    here : (k : ℕ) → k < 512 → blockByte h code i (0 + k) ≡ imageByte h code (512 * i + k)
+    here k l =
+        let q : (512 * i + k) / 512 ≡ i = omega arith in
+        let r : (512 * i + k) % 512 ≡ 0 + k = omega arith in
+        rw (q, r)
+
+    grown : putMid (512 * i) (512 * i + 512 - 512 * i) out part ≡ laid (imageByte h code) (512 * (i + 1)) out₀
+    grown =
+        let z : 512 * (i + 1) ≡ 512 * i + 512 = omega arith in
+        rw
+        (width-512 (512 * i), z, e, p, list-same (blockByte h code i) (imageByte h code) 0 (512 * i) 512 here)
+        (laid-part (imageByte h code) (512 * i) 512 out₀)

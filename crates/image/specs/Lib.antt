@@ -1,0 +1,5 @@
+pub mod Refusal
+pub mod Block
+pub mod Header
+pub mod Read
+pub mod Write

@@ -1,0 +1,166 @@
+// Reading an image: refusals 1 to 5 and 10 in the table's order, then the code.
+ghost use mathlib.Core.Path.{_≡_};
+ghost use Prim.Native.Nat.{_+_, _*_, _/_, _≤_};
+ghost use mathlib.Core.List.{[]};
+ghost use lib.ListN.{length};
+ghost use Rattle.notation.specs.Upto.{laid};
+ghost use Rattle.image.specs.Block.{wordAt};
+ghost use Rattle.image.specs.Header.{codeBlocks};
+ghost use Rattle.image.specs.Refusal.{taken, checkSays};
+ghost use Rattle.image.specs.Read.{refusal1, refusal2, refusal3, refusal4, refusal5, refusal10, checks, codeAt, reading, readSays, codeAfter};
+use crate::block;
+use crate::head;
+use crate::head::Header;
+use crate::table::Check;
+use crate::table::Refusal;
+
+pub enum Reading {
+    Accepted(Header),
+    Refused(Refusal),
+}
+
+// 1: image length 0 or not a multiple of 512.
+fn check_length(len: usize) -> Check
+    ensures { λ r. ⌜ checkSays r ≡ refusal1 len ⌝ }
+{
+    let bad = (len == 0) | (len % 512 != 0);
+    if bad {
+        Check::Failed(Refusal::Length)
+    } else {
+        Check::Passed
+    }
+}
+
+// 2: a block's check, then its number, is wrong; the first such block is named.
+fn check_blocks(image: &[u8]) -> Check
+    ensures { λ r. ⌜ checkSays r ≡ refusal2 (now (image .entry)) ⌝ }
+{
+    let blocks = image.len() / 512;
+    let mut i: usize = 0;
+    while i < blocks {
+        let at = 512 * i;
+        let end = at + 512;
+        let good = block::is_good(&image[at..end], i);
+        if !good {
+            return Check::Failed(Refusal::Block(i));
+        }
+        i += 1;
+    }
+    Check::Passed
+}
+
+// 3: header field out of range, or a nonzero word after it.
+fn check_header(image: &[u8]) -> Check
+    requires { ⌜ 512 ≤ length (now image) ⌝ }
+    ensures { λ r. ⌜ checkSays r ≡ refusal3 (now (image .entry)) ⌝ }
+{
+    let fields = head::is_good(head::read(image));
+    let rest = head::rest_is_zero(image);
+    let good = fields & rest;
+    if good {
+        Check::Passed
+    } else {
+        Check::Failed(Refusal::Head)
+    }
+}
+
+// 4: block count is not 1 plus n / 254 rounded up.
+fn check_count(len: usize, n: usize) -> Check
+    requires { ⌜ n ≤ 65535 ⌝ }
+    ensures { λ r. ⌜ checkSays r ≡ refusal4 len n ⌝ }
+{
+    let count = 1 + head::code_blocks(n);
+    if len / 512 == count {
+        Check::Passed
+    } else {
+        Check::Failed(Refusal::Count)
+    }
+}
+
+// Word k of the code.
+fn code_word(image: &[u8], k: usize) -> u16
+    requires { ⌜ 512 * (2 + k / 254) ≤ length (now image) ⌝ }
+    ensures { λ r. ⌜ r ≡ codeAt (now (image .entry)) k ⌝ }
+{
+    block::word(image, 256 * (1 + k / 254) + 1 + k % 254)
+}
+
+// 5: nonzero fill after the code.
+fn check_fill(image: &[u8], n: usize) -> Check
+    requires { ⌜ (n ≤ 65535) × (512 * (1 + codeBlocks n) ≤ length (now image)) ⌝ }
+    ensures { λ r. ⌜ checkSays r ≡ refusal5 (now (image .entry)) n ⌝ }
+{
+    let fill = 254 * head::code_blocks(n) - n;
+    let mut zero = true;
+    for k in 0..fill {
+        let w = code_word(image, n + k);
+        zero = zero & (w == 0);
+    }
+    if zero {
+        Check::Passed
+    } else {
+        Check::Failed(Refusal::Fill)
+    }
+}
+
+// 10: output too short.
+pub(crate) fn check_room(room: usize, size: usize) -> Check
+    ensures { λ r. ⌜ checkSays r ≡ refusal10 room size ⌝ }
+{
+    if room < size {
+        Check::Failed(Refusal::Short)
+    } else {
+        Check::Passed
+    }
+}
+
+// All checks, in the table's order: the first refusal returns at once.
+fn check_all(image: &[u8], room: usize) -> Check
+    ensures { λ r. ⌜ checkSays r ≡ checks (now (image .entry)) (taken []) room ⌝ }
+{
+    let length = check_length(image.len());
+    let Check::Passed = length else {
+        return length;
+    };
+    let blocks = check_blocks(image);
+    let Check::Passed = blocks else {
+        return blocks;
+    };
+    let head = check_header(image);
+    let Check::Passed = head else {
+        return head;
+    };
+    let n = head::read(image).length as usize;
+    let count = check_count(image.len(), n);
+    let Check::Passed = count else {
+        return count;
+    };
+    let fill = check_fill(image, n);
+    let Check::Passed = fill else {
+        return fill;
+    };
+    check_room(room, n)
+}
+
+// The first n words of the buffer become the code; the rest stays.
+fn copy_code(image: &[u8], n: usize, code: &mut [u16])
+    requires { ⌜ (n ≤ length (now code)) × (512 * (1 + codeBlocks n) ≤ length (now image)) ⌝ }
+    ensures { λ r. ⌜ now (code .exit) ≡ laid (codeAt (now (image .entry))) n (now (code .entry)) ⌝ }
+{
+    for k in 0..n {
+        code[k] = code_word(image, k);
+    }
+}
+
+// The header, with the code in the buffer; or the refusal, with the buffer as it was.
+pub fn read(image: &[u8], code: &mut [u16]) -> Reading
+    ensures { λ r. ⌜ (readSays r ≡ reading (now (image .entry)) (length (now (code .entry)))) × (now (code .exit) ≡ codeAfter (now (image .entry)) (now (code .entry))) ⌝ }
+{
+    let check = check_all(image, code.len());
+    if let Check::Failed(refusal) = check {
+        return Reading::Refused(refusal);
+    }
+    let header = head::read(image);
+    copy_code(image, header.length as usize, code);
+    Reading::Accepted(header)
+}
