@@ -1,0 +1,50 @@
+-- Ready processes by their classes, and the selection
+use Prim.Native.Nat.{ℕ}
+use lib.Dec.{ltb, leb, eqb}
+use lib.ListN.{set}
+use Rattle.notation.specs.If.{if}
+use mathlib.Core.Bool.{Bool, _||_, _&&_}
+use Rattle.machine.specs.declared.Machine.{Machine}
+use Rattle.machine.specs.State.{nobody, proc, ready, with, withProcess, ranked}
+use Rattle.machine.specs.Queue.{first, pushed, rest}
+
+-- h runs, or nobody does
+unfoldable pub run : Machine → ℕ → Machine
+run m h = with m (m .processes) (m .gates) (m .ready) h
+
+-- h joins the tail of class c; the head of class c is taken off
+unfoldable pub push : Machine → ℕ → ℕ → Machine
+push m c h = with m (m .processes) (m .gates) (set (m .ready) c (pushed (ready m c) h)) (m .running)
+
+unfoldable pub pull : Machine → ℕ → Machine
+pull m c = with m (m .processes) (m .gates) (set (m .ready) c (rest (ready m c))) (m .running)
+
+-- "Woken processes and new holders join the tail of their class"
+unfoldable pub wake : Machine → ℕ → Machine
+wake m h = push m ((proc m h) .class) h
+
+-- the class of h is c
+unfoldable pub rank : Machine → ℕ → ℕ → Machine
+rank m h c = withProcess m h (ranked (proc m h) c)
+
+abbrev pub someReady : Machine → ℕ → Bool
+someReady m c = ltb 0 ((ready m c) .len)
+
+-- the best class that is ready, or 3
+unfoldable pub best : Machine → ℕ
+best m = if (someReady m 0) 0 (if (someReady m 1) 1 (if (someReady m 2) 2 3))
+
+-- the head of class c runs
+unfoldable pub start : Machine → ℕ → Machine
+start m c = run (pull m c) (first (ready m c))
+
+-- "a running process with a strictly better class ready goes to the tail of its own and the head of the best class runs;
+-- with nobody running likewise; with nobody ready the machine idles"
+unfoldable pub selects : Machine → Bool
+selects m = if (leb nobody (m .running)) (ltb (best m) 3) (ltb (best m) ((proc m (m .running)) .class) && ltb (best m) 3)
+
+unfoldable pub select : Machine → Machine
+select m =
+    if (selects m)
+    (if (leb nobody (m .running)) (start m (best m)) (start (wake (run m nobody) (m .running)) (best m)))
+    m

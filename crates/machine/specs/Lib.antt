@@ -1,0 +1,16 @@
+pub mod State
+pub mod Queue
+pub mod Store
+pub mod View
+pub mod Job
+pub mod Instruction
+pub mod Classes
+pub mod Gate
+pub mod Clock
+pub mod Device
+pub mod Call
+pub mod Step
+pub mod Run
+pub mod Sound
+pub mod Offer
+pub mod Load

@@ -1,0 +1,17 @@
+-- The first laws follow from the definitions' forms
+use mathlib.Core.Path.{sym, ap, _∙_}
+use borrow.Author.Tests.{le-leb}
+use Rattle.machine.specs.State.{nobody}
+use Rattle.machine.specs.Sound.{sound}
+use Rattle.machine.specs.Step.{step}
+use Rattle.promises.specs.Laws.{IdleStep, SameOffer, SoundReadsNoStore}
+
+pub idle-step : IdleStep
+unfolding step
+idle-step code w h = rw (le-leb nobody (w .machine .running) h)
+
+pub same-offer : SameOffer
+same-offer code w x o o′ e e′ = e ∙ sym e′
+
+pub sound-reads-no-store : SoundReadsNoStore
+sound-reads-no-store w w′ e = ap sound e

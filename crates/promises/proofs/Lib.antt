@@ -1,0 +1,12 @@
+pub mod Words
+pub mod Checks
+pub mod OneImage
+pub mod SameOutcome
+pub mod Table
+pub mod Laws
+pub mod Rows
+pub mod Runs
+pub mod Marks
+pub mod Agree
+pub mod SameCalled
+pub mod PrivateWords

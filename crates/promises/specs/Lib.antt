@@ -1,0 +1,6 @@
+pub mod OneImage
+pub mod SameOutcome
+pub mod Table
+pub mod Laws
+pub mod Marks
+pub mod PrivateWords
