@@ -9,7 +9,7 @@ use Rattle.notation.specs.Upto.{listTo}
 use Rattle.machine.specs.declared.Regs.{Regs}
 use Rattle.machine.specs.declared.Process.{Process}
 use Rattle.machine.specs.declared.Machine.{Machine}
-use Rattle.machine.specs.State.{nobody, proc, parts, started, withProcess, withRegs, changed}
+use Rattle.machine.specs.State.{nobody, proc, parts, more, started, withProcess, withRegs, changed}
 use Rattle.machine.specs.Store.{World, own, Place, placeOf, whole, wordIn, commonWith, privateWith}
 use Rattle.machine.specs.View.{marks}
 use Rattle.machine.specs.Classes.{run, wake, someReady}
@@ -69,23 +69,26 @@ unfoldable pub call2 : World → Called
 call2 w = needsWords w 1 (stops (if (leb (top w 0) 6) (top w 0) 7))
 
 -- ---- 3 new process: pop t, v, p, then p words
+-- the child's record, as process 0 started
+unfoldable pub born : Machine → ℕ → ℕ → Machine
+born m t v =
+    parts m
+    (set (m .processes) (m .created) (started t v))
+    (m .gates)
+    (m .ready)
+    (m .clock)
+    (m .bell)
+    (m .devices)
+    (m .running)
+    (more (m .created) 10)
+    (m .made)
+
 -- "The parent goes to the tail of its class; the child runs if classes 0 and 1 are empty, else it joins class 2"
+unfoldable pub placeChild : Machine → ℕ → Machine
+placeChild m child = if (someReady m 0 || someReady m 1) (wake m child) (run m child)
+
 unfoldable pub createProcess : Machine → ℕ → ℕ → Machine
-createProcess m t v =
-    let child : ℕ = m .created in
-    let parentWaits : Machine = wake (run m nobody) (m .running) in
-    let both : Machine =
-    parts parentWaits
-    (set (parentWaits .processes) child (started t v))
-    (parentWaits .gates)
-    (parentWaits .ready)
-    (parentWaits .clock)
-    (parentWaits .bell)
-    (parentWaits .devices)
-    nobody
-    (child + 1)
-    (parentWaits .made) in
-    if (someReady both 0 || someReady both 1) (wake both child) (run both child)
+createProcess m t v = placeChild (born (wake (run m nobody) (m .running)) t v) (m .created)
 
 -- "its part is cleared, then the p words stand first in the order pushed": the first pushed lies deepest
 unfoldable pub newPart : World → ℕ → List ℕ

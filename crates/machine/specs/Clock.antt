@@ -1,7 +1,7 @@
 -- The clock and the bell: who waits for them, and how they wake
 use mathlib.Core.Bool.{Bool}
 use Prim.Native.Nat.{ℕ, zero, suc, _+_}
-use lib.Dec.{leb, eqb}
+use lib.Dec.{leb, ltb, eqb}
 use Rattle.notation.specs.If.{if}
 use Rattle.machine.specs.declared.Process.{Process}
 use Rattle.machine.specs.declared.Machine.{Machine}
@@ -33,7 +33,7 @@ bellWake (suc k) m = bellWake k (bellOne m)
 
 -- "At 10,000 the fraction returns to 0, seconds grow (32,767 goes to 0), and all waiting for the clock wake in order"
 abbrev pub nextSecond : ℕ → ℕ
-nextSecond s = if (eqb s 32767) 0 (s + 1)
+nextSecond s = if (ltb s 32767) (s + 1) 0
 
 unfoldable pub timePasses : Machine → Machine
 timePasses m =

@@ -7,18 +7,19 @@ use Rattle.notation.specs.If.{if}
 use Rattle.machine.specs.declared.Queue.{Queue}
 use Rattle.machine.specs.declared.Process.{Process}
 use Rattle.machine.specs.declared.Machine.{Machine}
-use Rattle.machine.specs.State.{nobody, proc, gate, with, parts, changed}
+use Rattle.machine.specs.State.{nobody, proc, gate, with, parts, more, changed}
 use Rattle.machine.specs.Queue.{first, pushed, rest}
 use Rattle.machine.specs.Classes.{run, wake}
 use mathlib.Core.List.{List}
 
--- ---- the gates that a process holds, in the order entered: with g as the latest, and without the latest
+-- ---- the gates that a process holds, in the order entered: with g as the latest, for which a sound state has room, and without the latest
 -- "Class 0 while holding a gate"; "Giving up the last gate held, by a delay too, makes it 2"
 abbrev pub latest : Process → ℕ
 latest p = getD (p .held) (p .holds - 1) 0
 
 unfoldable pub holding : Process → ℕ → Process
-holding p g = changed p (p .regs) (p .slice) 0 (p .holds + 1) (set (p .held) (p .holds) g) (p .ended)
+holding p g =
+    if (ltb (p .holds) 8) (changed p (p .regs) (p .slice) 0 (p .holds + 1) (set (p .held) (p .holds) g) (p .ended)) p
 
 unfoldable pub dropping : Process → Process
 dropping p = changed p (p .regs) (p .slice) (if (leb (p .holds) 1) 2 0) (p .holds - 1) (p .held) (p .ended)
@@ -88,7 +89,7 @@ continue m g c =
 -- "new gate, shut and held by the caller"
 unfoldable pub makeGate : Machine → Machine
 makeGate m =
-    grant (parts m (m .processes) (m .gates) (m .ready) (m .clock) (m .bell) (m .devices) (m .running) (m .created) (m .made + 1))
+    grant (parts m (m .processes) (m .gates) (m .ready) (m .clock) (m .bell) (m .devices) (m .running) (m .created) (more (m .made) 25))
     (m .made)
     (m .running)
 

@@ -1,8 +1,10 @@
 -- The parts of the state, and how each is changed. "Sizes", and the state that loading leaves
 use mathlib.Core.Bool.{Bool, false}
 use mathlib.Core.List.{List, []}
-use Prim.Native.Nat.{ℕ}
+use Prim.Native.Nat.{ℕ, _+_}
+use lib.Dec.{ltb}
 use lib.ListN.{getD, set, replicate}
+use Rattle.notation.specs.If.{if}
 use Rattle.image.specs.declared.head.Header.{Header}
 use Rattle.machine.specs.declared.Queue.{Queue}
 use Rattle.machine.specs.declared.Gate.{Gate}
@@ -143,6 +145,10 @@ withWaits m clock bell ds = parts m (m .processes) (m .gates) (m .ready) clock b
 -- process i becomes p
 unfoldable pub withProcess : Machine → ℕ → Process → Machine
 withProcess m i p = with m (set (m .processes) i p) (m .gates) (m .ready) (m .running)
+
+-- one more of what there are at most k of
+abbrev pub more : ℕ → ℕ → ℕ
+more x k = if (ltb x k) (x + 1) x
 
 -- ---- a process with some of its parts anew
 abbrev pub changed : Process → Regs → ℕ → ℕ → ℕ → List ℕ → Bool → Process
