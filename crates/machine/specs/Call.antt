@@ -46,7 +46,7 @@ passed m s =
     let r : Regs = p .regs in
     withProcess m (m .running) (withRegs p (marks r (r .address + 2) (r .line) s (r .b)))
 
--- k words are popped
+-- the caller has gone past KTRAP, and its stack is k words shorter
 abbrev pub popped : World → ℕ → Machine
 popped w k = passed (w .machine) ((caller w) .regs .s + k)
 
@@ -186,7 +186,7 @@ ioBegins w d operation =
     (if (not (isPresent m d) || isBusy m d) (on (reports w (popped w 2) 3))
     (starts d (reports w (deviceStart (popped w 2) d operation (top w 0)) 0)))
 
--- "The four words lie whole in one store, else 2"; "Device and operation out of range are 3"
+-- "The four words (..) lie whole in one store, else 2"; "Device and operation out of range are 3"
 unfoldable pub call11 : World → Called
 call11 w =
     let d : ℕ = top w 1 in

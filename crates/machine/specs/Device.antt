@@ -1,13 +1,14 @@
 -- Devices: how one starts, and the done event
 use mathlib.Core.Bool.{Bool, _&&_, not}
-use Prim.Native.Nat.{ℕ, _+_, _/_, _%_, _^_}
+use Prim.Native.Nat.{ℕ, _+_, _*_, _/_, _%_, _^_}
 use lib.Dec.{ltb, leb, eqb}
-use lib.ListN.{set}
+use mathlib.Core.List.{List, []}
+use lib.ListN.{set, take, drop}
 use Rattle.notation.specs.If.{if}
 use Rattle.machine.specs.declared.Device.{Device}
 use Rattle.machine.specs.declared.Machine.{Machine}
 use Rattle.machine.specs.State.{nobody, proc, device, withWaits}
-use Rattle.machine.specs.Store.{World, Place, placeOf, commonWith, privateWith}
+use Rattle.machine.specs.Store.{World, Place, inCommon, inOwn, nowhere, placeOf, commonWith, privateWith}
 use Rattle.machine.specs.Classes.{run, rank, wake, select}
 
 -- "present devices (bits 0 to 4)"
@@ -52,3 +53,14 @@ unfoldable pub deviceDone : World → ℕ → ℕ → ℕ → World
 deviceDone w d status arg =
     let v : World = recorded w d status arg in
     record { machine = select (deviceEnd (w .machine) d); common = v .common; private = v .private }
+
+-- ---- the record of a busy device: its four words, "handed back as a part of the common or of the private store"
+abbrev pub fourWords : Place → ℕ → List ℕ → List ℕ → List ℕ
+fourWords (inCommon k) i common private = take 4 (drop k common)
+fourWords (inOwn k) i common private = take 4 (drop (2048 * i + k) private)
+fourWords nowhere i common private = []
+
+unfoldable pub recordOf : World → ℕ → List ℕ
+recordOf w d =
+    let x : Device = device (w .machine) d in
+    if (isBusy (w .machine) d) (fourWords (placeOf (x .address)) (x .process) (w .common) (w .private)) []

@@ -12,7 +12,7 @@ use Rattle.machine.specs.Queue.{first, pushed, rest}
 use Rattle.machine.specs.Classes.{run, wake}
 use mathlib.Core.List.{List}
 
--- ---- the gates that a process holds, in the order entered: with g as the latest, for which a sound state has room, and without the latest
+-- ---- the gates that a process holds, in the order entered: with g as the latest, for which a sound state has room (else nothing changes), and without the latest
 -- "Class 0 while holding a gate"; "Giving up the last gate held, by a delay too, makes it 2"
 abbrev pub latest : Process → ℕ
 latest p = getD (p .held) (p .holds - 1) 0

@@ -7,7 +7,7 @@ use Rattle.notation.specs.If.{if}
 use Rattle.machine.specs.declared.Regs.{Regs}
 use Rattle.machine.specs.View.{View, next, Done, done, faulted, n, op}
 
--- "Then C, B and S are as before the call, the process goes on after CALLPROG's arguments, a pending stop is gone"
+-- "Then C, B and S are as before the call (the p words stay), the process goes on after CALLPROG's arguments, a pending stop is gone"
 abbrev pub afterJob : Regs → ℕ → Regs
 afterJob r s =
     record { address = r .«saved_address»; line = r .line; s = s; b = r .«saved_b»; c = 4096; «in_job» = false; «saved_s» = 0; «saved_b» = 0; «saved_address» = 0; p = 0; reason = 0 }

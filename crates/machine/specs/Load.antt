@@ -31,3 +31,16 @@ loads bytes common private code =
     (loaded
     (record { machine = fresh (headerOf bytes); common = replicate 2048 0; private = replicate 20480 0 })
     (laid (codeAt bytes) (wordAt bytes 2) code))
+
+-- the stores and the code buffer after an offer to load; a refusal changes nothing
+abbrev pub commonAfter : Loading → List ℕ → List ℕ
+commonAfter (loaded w c) common = w .common
+commonAfter (refuses k vs) common = common
+
+abbrev pub privateAfter : Loading → List ℕ → List ℕ
+privateAfter (loaded w c) private = w .private
+privateAfter (refuses k vs) private = private
+
+abbrev pub bufferAfter : Loading → List ℕ → List ℕ
+bufferAfter (loaded w c) code = c
+bufferAfter (refuses k vs) code = code

@@ -9,6 +9,7 @@ use Rattle.machine.specs.declared.Queue.{Queue}
 abbrev pub queueOf : Queue → List ℕ
 queueOf q = take (q .len) (q .at)
 
+-- who stands first; asked only of a queue that has somebody
 abbrev pub first : Queue → ℕ
 first q = getD (q .at) 0 0
 

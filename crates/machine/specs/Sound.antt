@@ -66,7 +66,7 @@ heldOf p g = sumTo (λ k. bit (eqb (getD (p .held) k 0) g)) (p .holds)
 unfoldable pub gateOk : Machine → ℕ → Bool
 gateOk m g =
     let w : Gate = gate m g in
-    -- a gate is shut exactly if it has a holder; a cell has one process at most
+    -- the holder, the waiters and who sits in the cells are created processes; a gate with a holder is shut, by the type
     someone m (w .holder)
     && queueOk m (w .queue)
     && allTo (λ c. someone m (getD (w .cells) c 0)) 8
@@ -111,7 +111,7 @@ jobOk n r =
     && (eqb (r .reason) 0 || (leb 16 (r .reason) && leb (r .reason) 255)))
     (eqb (r .c) 4096 && eqb (r .reason) 0)
 
--- "V is 0 to 1,024, L <= S <= B <= C, code address at most n"; "Slices are 0 to 190, multiples of 10"
+-- "V is 0 to 1,024, (..), L <= S <= B <= C, code address at most n"; "Slices are 0 to 190 (..), all multiples of 10"
 unfoldable pub marksOk : ℕ → Process → Bool
 marksOk n p =
     let r : Regs = p .regs in

@@ -1,4 +1,4 @@
--- One instruction, one event, and what is refused of them
+-- One step: an instruction of the running process, with its kernel call and the selection after it
 use mathlib.Core.Bool.{Bool, true, false, _&&_, _||_, not}
 use mathlib.Core.List.{List, [], _∷_}
 use Prim.Native.Nat.{ℕ, zero, suc, _+_, _-_}
@@ -19,7 +19,7 @@ view code w =
     let i : ℕ = w .machine .running in
     record { code = code; floor = 2048 + (proc (w .machine) i) .variables; holding = ltb 0 ((proc (w .machine) i) .holds); regs = (proc (w .machine) i) .regs; common = w .common; own = partOf i (w .private) }
 
--- ---- how a step ended: the process or another goes on; nobody runs; a device has started; the machine has stopped
+-- ---- how a step ended: with nothing to tell, also where nobody is left to run; nobody ran; a device has started; the machine has stopped
 pub data Ended : Type 0 where
   onward : Ended
   idle : Ended

@@ -62,7 +62,7 @@ abbrev pub marks : Regs → ℕ → ℕ → ℕ → ℕ → Regs
 marks r address line s b =
     record { address = address; line = line; s = s; b = b; c = r .c; «in_job» = r .«in_job»; «saved_s» = r .«saved_s»; «saved_b» = r .«saved_b»; «saved_address» = r .«saved_address»; p = r .p; reason = r .reason }
 
--- "A faulting instruction does none of its own work"
+-- a faulting instruction does none of its own work
 abbrev pub faulted : View → ℕ → Done
 faulted v f = done (faults f) (v .common) (v .own)
 
@@ -118,6 +118,6 @@ stores v (inCommon k) w s = done (next (marks (v .regs) (past v 1) (v .regs .lin
 stores v (inOwn k) w s = done (next (marks (v .regs) (past v 1) (v .regs .line) s (v .regs .b))) (v .common) (set (v .own) k w)
 stores v nowhere w s = faulted v 2
 
--- n words from a place on become zero
+-- k words from a place on become zero
 abbrev pub cleared : List ℕ → ℕ → ℕ → List ℕ
 cleared l at k = take at l ++ (replicate k 0 ++ drop (at + k) l)

@@ -4,7 +4,7 @@ use borrow.Author.Tests.{le-leb}
 use Rattle.machine.specs.State.{nobody}
 use Rattle.machine.specs.Sound.{sound}
 use Rattle.machine.specs.Step.{step}
-use Rattle.promises.specs.Laws.{IdleStep, SameOffer, SoundReadsNoStore}
+use Rattle.promises.specs.Laws.{IdleStep, SameOffer, SameRun, SameLoading, SoundReadsNoStore}
 
 pub idle-step : IdleStep
 unfolding step
@@ -12,6 +12,12 @@ idle-step code w h = rw (le-leb nobody (w .machine .running) h)
 
 pub same-offer : SameOffer
 same-offer code w x o o′ e e′ = e ∙ sym e′
+
+pub same-run : SameRun
+same-run code budget w o o′ e e′ = e ∙ sym e′
+
+pub same-loading : SameLoading
+same-loading bytes common private code o o′ e e′ = e ∙ sym e′
 
 pub sound-reads-no-store : SoundReadsNoStore
 sound-reads-no-store w w′ e = ap sound e

@@ -10,3 +10,4 @@ pub mod Marks
 pub mod Agree
 pub mod SameCalled
 pub mod PrivateWords
+pub mod Faults

@@ -6,7 +6,8 @@ use Rattle.machine.specs.State.{nobody}
 use Rattle.machine.specs.Store.{World}
 use Rattle.machine.specs.Sound.{sound}
 use Rattle.machine.specs.Step.{stepped, idle, step}
-use Rattle.machine.specs.Offer.{Offer, Offered, offer}
+use Rattle.machine.specs.Offer.{Offer, Offered, offer, offerRun}
+use Rattle.machine.specs.Load.{Loading, loads}
 
 -- a step on an idle machine changes nothing and counts 0
 abbrev pub IdleStep : Type 0
@@ -18,6 +19,20 @@ SameOffer =
     (code : List ℕ) (w : World) (x : Offer) (o o′ : Offered)
     → o ≡ offer code w x
     → o′ ≡ offer code w x
+    → o ≡ o′
+
+abbrev pub SameRun : Type 0
+SameRun =
+    (code : List ℕ) (budget : ℕ) (w : World) (o o′ : Offered)
+    → o ≡ offerRun code budget w
+    → o′ ≡ offerRun code budget w
+    → o ≡ o′
+
+abbrev pub SameLoading : Type 0
+SameLoading =
+    (bytes common private code : List ℕ) (o o′ : Loading)
+    → o ≡ loads bytes common private code
+    → o′ ≡ loads bytes common private code
     → o ≡ o′
 
 -- soundness reads no store

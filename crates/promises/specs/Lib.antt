@@ -4,3 +4,4 @@ pub mod Table
 pub mod Laws
 pub mod Marks
 pub mod PrivateWords
+pub mod Faults
