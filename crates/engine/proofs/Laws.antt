@@ -17,8 +17,8 @@ use Rattle.word.specs.Whole.{biased}
 use Rattle.word.proofs.Words.{before-cases, past-cases, among-cases}
 use Rattle.machine.specs.declared.Regs.{Regs}
 use Rattle.machine.specs.Store.{Place, inCommon, inOwn, nowhere, placeOf}
-use Rattle.machine.specs.View.{View, next, Done, done, n, arg, past, local, top, under, marks, faulted, toTarget, replaces, stays, inRegion, located, fetched, stores, cleared}
-use Rattle.machine.specs.Instruction.{pushind, copyword, index, range, taken, casejump, enter, exit, inJob, callprog}
+use Rattle.machine.specs.View.{View, next, Effect, effect, n, arg, past, local, top, under, marks, faulted, toTarget, replaces, stays, inRegion, located, fetched, stores, cleared}
+use Rattle.machine.specs.Instruction.{pushind, copyword, index, range, toCase, casejump, enter, exit, inJob, callprog}
 use Rattle.engine.specs.Did.{seen}
 use Rattle.engine.specs.Found.{found}
 use Rattle.engine.specs.declared.place.Place.{Place as Found}
@@ -95,7 +95,7 @@ cleared-more l at i h =
     (set-at front (getD l (at + i) 0) rest 0 (at + i) long ∙ rw (e, ← replicate-append-replicate {A = ℕ} i 1 0) (simp append-assoc))
 
 -- ---- an instruction whose first tests hold does what its definition says after them
-module _ (v : View) {d : Done} where
+module _ (v : View) {d : Effect} where
   module _ {x : Place} where
     pub pushind-passed : x ≡ located (seen [] (v .floor) false (v .regs) [] []) (top v)
         → v .regs .s + 1 ≤ v .regs .b
@@ -128,13 +128,13 @@ module _ (v : View) {d : Done} where
 
     pub casejump-passed : x ≡ caseW (top v) (arg v 1) (arg v 2)
         → (past v (3 + arg v 2) ≤ n v) × (v .regs .s + 1 ≤ v .regs .b)
-        → d ≡ taken v x
+        → d ≡ toCase v x
         → d ≡ casejump v
     unfolding casejump
     casejump-passed reckoned h e = rw (le-leb _ _ (h .0), le-leb _ _ (h .1), ← reckoned) e
 
   pub enter-passed : (past v 2 ≤ n v) × (v .floor + (arg v 1 + 1) ≤ v .regs .s)
-      → d ≡ done (next (marks (v .regs) (past v 2) (v .regs .line) (v .regs .s - 1 - arg v 1) (v .regs .s - 1))) (v .common)
+      → d ≡ effect (next (marks (v .regs) (past v 2) (v .regs .line) (v .regs .s - 1 - arg v 1) (v .regs .s - 1))) (v .common)
       (cleared (set (v .own) (v .regs .s - 1 - 2048) (v .regs .b)) (v .regs .s - 1 - arg v 1 - 2048) (arg v 1))
       → d ≡ enter v
   unfolding enter
@@ -144,7 +144,7 @@ module _ (v : View) {d : Done} where
   pub exit-passed : {flag : Bool} {s old back : ℕ}
       → leb s old && leb (local v (v .regs .b)) (v .regs .c) && ltb back (n v) ≡ flag
       → (past v 2 ≤ n v) × (v .regs .s ≤ v .regs .b) × (s ≤ v .regs .c) × (s ≡ v .regs .b + 2 + arg v 1) × (old ≡ local v (v .regs .b)) × (back ≡ local v (v .regs .b + 1))
-      → d ≡ if flag (done (next (marks (v .regs) (local v (v .regs .b + 1)) (v .regs .line) s (local v (v .regs .b)))) (v .common) (v .own)) (faulted v 7)
+      → d ≡ if flag (effect (next (marks (v .regs) (local v (v .regs .b + 1)) (v .regs .line) s (local v (v .regs .b)))) (v .common) (v .own)) (faulted v 7)
       → d ≡ exit v
   unfolding exit
   exit-passed f (long, framed, fits, es, eo, eb) e =
@@ -152,7 +152,7 @@ module _ (v : View) {d : Done} where
 
   pub callprog-passed : v .regs .«in_job» ≡ false
       → (past v 3 ≤ n v) × (v .regs .s + arg v 2 ≤ v .regs .b)
-      → d ≡ if (v .holding) (faulted v 8) (toTarget v (arg v 1) (done (next (inJob (v .regs) (arg v 1) (arg v 2))) (v .common) (v .own)))
+      → d ≡ if (v .holding) (faulted v 8) (toTarget v (arg v 1) (effect (next (inJob (v .regs) (arg v 1) (arg v 2))) (v .common) (v .own)))
       → d ≡ callprog v
   unfolding callprog
   callprog-passed out h e = rw (le-leb _ _ (h .0), out, le-leb _ _ (h .1)) e

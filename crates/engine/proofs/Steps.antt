@@ -6,7 +6,7 @@ use Prim.Native.Nat.{ℕ, zero, suc, _≤_, _<_}
 use native.Mathlib.Omega.{arith}
 use lib.Dec.{ltb, eqb}
 use borrow.Author.Tests.{ltb-true, lt-ltb, le-ltb, ne-eqb, le-leb, lt-leb}
-use Rattle.machine.specs.View.{View, faults, Done, done, n, op, faulted}
+use Rattle.machine.specs.View.{View, faults, Effect, effect, n, op, faulted}
 use Rattle.machine.specs.Job.{endJob, takesStop}
 use Rattle.machine.specs.Instruction.{perform, execute, settled, instruct}
 use Rattle.promises.proofs.Faults.{faults-keep}
@@ -32,7 +32,7 @@ no-code v code h =
     (off 0 refl, off 1 refl, off 2 refl, off 3 refl, off 4 refl, off 5 refl, off 6 refl, off 7 refl, off 8 refl, off 11 refl, le-leb 9 code (omega arith), lt-leb code 19 (omega arith), off 20 refl, off 21 refl, off 22 refl, off 23 refl, off 24 refl, off 25 refl, off 26 refl, off 27 refl, off 28 refl)
 
 -- ---- a fault in a job ends the job
-pub ends : (v : View) (f : ℕ) (d : Done) → v .regs .«in_job» ≡ true → endJob v f ≡ settled v (faults f) d
+pub ends : (v : View) (f : ℕ) (d : Effect) → v .regs .«in_job» ≡ true → endJob v f ≡ settled v (faults f) d
 ends v f d j = rw j
 
 -- where perform answered a fault, both stores are as before, so it is settled on the view
@@ -40,7 +40,7 @@ pub settles : (v : View) (code : ℕ) (o : Out) (c q : List ℕ) → did o c q �
     → settled (seen (v .code) (v .floor) (v .holding) (v .regs) c q) ((did o c q) .out) (did o c q) ≡ settled v ((perform v code) .out) (perform v code)
 settles v code (Next r) c q e = rw (← e)
 settles v code (Fault f) c q e =
-    let k : done (faults f) c q ≡ faulted v f = e ∙ faults-keep v code f (ap (λ d. d .out) (sym e)) in
+    let k : effect (faults f) c q ≡ faulted v f = e ∙ faults-keep v code f (ap (λ d. d .out) (sym e)) in
     rw (← e, ap (λ d. d .common) k, ap (λ d. d .own) k)
 settles v code (Call k) c q e = rw (← e)
 

@@ -6,7 +6,7 @@ use Prim.Native.Nat.{ℕ, suc, _+_, _-_, _<_, _≤_}
 use native.Mathlib.Omega.{arith}
 use lib.ListN.{length}
 use Rattle.machine.specs.declared.Regs.{Regs}
-use Rattle.machine.specs.View.{View, next, faults, calls, Done, done, n, faulted}
+use Rattle.machine.specs.View.{View, next, faults, calls, Effect, effect, n, faulted}
 use Rattle.machine.specs.Instruction.{instruct}
 use Rattle.machine.specs.Sound.{jobOk}
 use Rattle.promises.specs.Marks.{Fit}
@@ -67,7 +67,7 @@ module _ (v : View) (o : Out) (c q : List ℕ) (did-it : did o c q ≡ instruct 
   -- where the process goes on it is fit again
   pub fit-again : (r : Regs) → Fit v → o ≡ Next r → Fit (moved v r c q)
   fit-again r f k =
-      let e : done (next r) c q ≡ instruct v = answers k in
+      let e : effect (next r) c q ≡ instruct v = answers k in
       record {
         ordered = marks-kept v r f (ap (λ d. d .out) (sym e));
         common = ap (λ d. length (d .common)) e ∙ stores-kept v f .0;
@@ -75,7 +75,7 @@ module _ (v : View) (o : Out) (c q : List ℕ) (did-it : did o c q ≡ instruct 
       }
 
   module _ (budget count : ℕ) (some-left : count < budget) where
-    turn : (d : Done) → d ≡ instruct v
+    turn : (d : Effect) → d ≡ instruct v
         → goesOn count (budget - count) v
         ≡ follows (d .out) v d count (goesOn (count + 1) (budget - (count + 1)) (after (d .out) v d))
     unfolding goesOn
@@ -83,21 +83,21 @@ module _ (v : View) (o : Out) (c q : List ℕ) (did-it : did o c q ≡ instruct 
 
     pub job-over : (r : Regs) → o ≡ Next r → jobOver (v .regs) r ≡ true
         → bursted r (count + 1) Job c q ≡ goesOn count (budget - count) v
-    job-over r k j = sym (turn (done (next r) c q) (answers k) ∙ rw j)
+    job-over r k j = sym (turn (effect (next r) c q) (answers k) ∙ rw j)
 
     pub goes-on : (r : Regs) → o ≡ Next r → jobOver (v .regs) r ≡ false
         → goesOn count (budget - count) v ≡ goesOn (count + 1) (budget - (count + 1)) (moved v r c q)
-    goes-on r k j = turn (done (next r) c q) (answers k) ∙ rw j
+    goes-on r k j = turn (effect (next r) c q) (answers k) ∙ rw j
 
     -- a fault and a kernel call are left as they were found
     pub at-fault : (f : ℕ) → o ≡ Fails f → bursted (v .regs) count (Fault f) c q ≡ goesOn count (budget - count) v
     at-fault f k =
-        let e : done (faults f) c q ≡ instruct v = answers k in
-        let same : done (faults f) c q ≡ faulted v f = e ∙ stops-keep v f (ap (λ d. d .out) (sym e)) in
-        rw (ap (λ d. d .common) same, ap (λ d. d .own) same) (sym (turn (done (faults f) c q) e))
+        let e : effect (faults f) c q ≡ instruct v = answers k in
+        let same : effect (faults f) c q ≡ faulted v f = e ∙ stops-keep v f (ap (λ d. d .out) (sym e)) in
+        rw (ap (λ d. d .common) same, ap (λ d. d .own) same) (sym (turn (effect (faults f) c q) e))
 
     pub at-call : (j : ℕ) → o ≡ Calls j → bursted (v .regs) count (Call j) c q ≡ goesOn count (budget - count) v
     at-call j k =
-        let e : done (calls j) c q ≡ instruct v = answers k in
-        let same : done (calls j) c q ≡ done (calls j) (v .common) (v .own) = e ∙ calls-keep v j (ap (λ d. d .out) (sym e)) in
-        rw (ap (λ d. d .common) same, ap (λ d. d .own) same) (sym (turn (done (calls j) c q) e))
+        let e : effect (calls j) c q ≡ instruct v = answers k in
+        let same : effect (calls j) c q ≡ effect (calls j) (v .common) (v .own) = e ∙ calls-keep v j (ap (λ d. d .out) (sym e)) in
+        rw (ap (λ d. d .common) same, ap (λ d. d .own) same) (sym (turn (effect (calls j) c q) e))

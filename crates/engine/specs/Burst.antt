@@ -6,7 +6,7 @@ use lib.Dec.{leb, eqb}
 use lib.ListN.{length}
 use Rattle.notation.specs.If.{if}
 use Rattle.machine.specs.declared.Regs.{Regs}
-use Rattle.machine.specs.View.{View, Out, next, faults, calls, Done, n}
+use Rattle.machine.specs.View.{View, Out, next, faults, calls, Effect, n}
 use Rattle.machine.specs.Instruction.{instruct}
 use Rattle.machine.specs.Sound.{jobOk}
 use Rattle.engine.specs.declared.burst.Burst.{Burst}
@@ -31,12 +31,12 @@ moved v r c q = record { code = v .code; floor = v .floor; holding = v .holding;
 abbrev pub jobOver : Regs → Regs → Bool
 jobOver before after = before .«in_job» && not (after .«in_job»)
 
-abbrev pub follows : Out → View → Done → ℕ → Bursted → Bursted
+abbrev pub follows : Out → View → Effect → ℕ → Bursted → Bursted
 follows (next r) v d count more = if (jobOver (v .regs) r) (bursted r (count + 1) Job (d .common) (d .own)) more
 follows (faults f) v d count more = bursted (v .regs) count (Fault f) (v .common) (v .own)
 follows (calls k) v d count more = bursted (v .regs) count (Call k) (v .common) (v .own)
 
-abbrev pub after : Out → View → Done → View
+abbrev pub after : Out → View → Effect → View
 after (next r) v d = moved v r (d .common) (d .own)
 after (faults f) v d = v
 after (calls k) v d = v
@@ -45,7 +45,7 @@ after (calls k) v d = v
 unfoldable pub goesOn : ℕ → ℕ → View → Bursted
 goesOn count zero v = bursted (v .regs) count Budget (v .common) (v .own)
 goesOn count (suc k) v =
-    let d : Done = instruct v in
+    let d : Effect = instruct v in
     let more : Bursted = goesOn (count + 1) k (after (d .out) v d) in
     follows (d .out) v d count more
 

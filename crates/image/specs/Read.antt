@@ -47,15 +47,15 @@ refusal5 bytes n = refuse 5 (not (allTo (λ k. eqb (codeAt bytes (n + k)) 0) (25
 unfoldable pub refusal10 : ℕ → ℕ → Reply
 refusal10 room size = refuse 10 (ltb room size)
 
--- the table's checks in its order, with n as the header says it; 6 comes from whoever is lent stores too
+-- the table's checks in its order, with n as the header says it; `lent` is what 6 says where stores are lent too
 unfoldable pub checks : List ℕ → Reply → ℕ → Reply
-checks bytes refusal6 room =
+checks bytes lent room =
     refusal1 (length bytes)
     then refusal2 bytes
     then refusal3 bytes
     then refusal4 (length bytes) (wordAt bytes 2)
     then refusal5 bytes (wordAt bytes 2)
-    then refusal6
+    then lent
     then refusal10 room (wordAt bytes 2)
 
 abbrev pub reading : List ℕ → ℕ → Reply

@@ -5,12 +5,12 @@ use lib.ListN.{set}
 use Rattle.notation.specs.If.{if}
 use mathlib.Core.Bool.{Bool, _||_, _&&_}
 use Rattle.machine.specs.declared.Machine.{Machine}
-use Rattle.machine.specs.State.{nobody, proc, ready, with, withProcess, ranked}
+use Rattle.machine.specs.State.{nobody, proc, ready, with, withProcess, withClass}
 use Rattle.machine.specs.Queue.{first, pushed, rest}
 
 -- h runs, or nobody does
-unfoldable pub run : Machine → ℕ → Machine
-run m h = with m (m .processes) (m .gates) (m .ready) h
+unfoldable pub setRunning : Machine → ℕ → Machine
+setRunning m h = with m (m .processes) (m .gates) (m .ready) h
 
 -- h joins the tail of class c; the head of class c is taken off
 unfoldable pub push : Machine → ℕ → ℕ → Machine
@@ -24,8 +24,8 @@ unfoldable pub wake : Machine → ℕ → Machine
 wake m h = push m ((proc m h) .class) h
 
 -- the class of h is c
-unfoldable pub rank : Machine → ℕ → ℕ → Machine
-rank m h c = withProcess m h (ranked (proc m h) c)
+unfoldable pub setClass : Machine → ℕ → ℕ → Machine
+setClass m h c = withProcess m h (withClass (proc m h) c)
 
 abbrev pub someReady : Machine → ℕ → Bool
 someReady m c = ltb 0 ((ready m c) .len)
@@ -36,7 +36,7 @@ best m = if (someReady m 0) 0 (if (someReady m 1) 1 (if (someReady m 2) 2 3))
 
 -- the head of class c runs
 unfoldable pub start : Machine → ℕ → Machine
-start m c = run (pull m c) (first (ready m c))
+start m c = setRunning (pull m c) (first (ready m c))
 
 -- "a running process with a strictly better class ready goes to the tail of its own and the head of the best class runs;
 -- with nobody running likewise; with nobody ready the machine idles"
@@ -46,5 +46,5 @@ selects m = if (leb nobody (m .running)) (ltb (best m) 3) (ltb (best m) ((proc m
 unfoldable pub select : Machine → Machine
 select m =
     if (selects m)
-    (if (leb nobody (m .running)) (start m (best m)) (start (wake (run m nobody) (m .running)) (best m)))
+    (if (leb nobody (m .running)) (start m (best m)) (start (wake (setRunning m nobody) (m .running)) (best m)))
     m

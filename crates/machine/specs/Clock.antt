@@ -7,14 +7,14 @@ use Rattle.machine.specs.declared.Process.{Process}
 use Rattle.machine.specs.declared.Machine.{Machine}
 use Rattle.machine.specs.State.{nobody, proc, timed, withWaits, withProcess, changed}
 use Rattle.machine.specs.Queue.{first, pushed, rest}
-use Rattle.machine.specs.Classes.{run, wake, best, select}
+use Rattle.machine.specs.Classes.{setRunning, wake, best, select}
 
 -- the running process waits for the next second; it waits for the bell
 unfoldable pub clockWait : Machine → Machine
-clockWait m = withWaits (run m nobody) (pushed (m .clock) (m .running)) (m .bell) (m .devices)
+clockWait m = withWaits (setRunning m nobody) (pushed (m .clock) (m .running)) (m .bell) (m .devices)
 
 unfoldable pub bellWait : Machine → Machine
-bellWait m = withWaits (run m nobody) (m .clock) (pushed (m .bell) (m .running)) (m .devices)
+bellWait m = withWaits (setRunning m nobody) (m .clock) (pushed (m .bell) (m .running)) (m .devices)
 
 -- the first waiter wakes; n of them wake, in order
 unfoldable pub clockOne : Machine → Machine
@@ -49,7 +49,7 @@ abbrev pub sliced : Process → ℕ → ℕ → Process
 sliced p slice class = changed p (p .regs) slice class (p .holds) (p .held) (p .ended)
 
 unfoldable pub yields : Machine → ℕ → Machine
-yields m h = if (leb (best m) ((proc m h) .class)) (wake (run m nobody) h) m
+yields m h = if (leb (best m) ((proc m h) .class)) (wake (setRunning m nobody) h) m
 
 -- "The running process's slice grows by 10; at 200 it is 0 again"
 unfoldable pub slicePasses : Machine → ℕ → Machine

@@ -9,7 +9,7 @@ use Rattle.machine.specs.declared.Process.{Process}
 use Rattle.machine.specs.declared.Machine.{Machine}
 use Rattle.machine.specs.State.{nobody, proc, gate, with, parts, more, changed}
 use Rattle.machine.specs.Queue.{first, pushed, rest}
-use Rattle.machine.specs.Classes.{run, wake}
+use Rattle.machine.specs.Classes.{setRunning, wake}
 use mathlib.Core.List.{List}
 
 -- ---- the gates that a process holds, in the order entered: with g as the latest, for which a sound state has room (else nothing changes), and without the latest
@@ -17,12 +17,12 @@ use mathlib.Core.List.{List}
 abbrev pub latest : Process → ℕ
 latest p = getD (p .held) (p .holds - 1) 0
 
-unfoldable pub holding : Process → ℕ → Process
-holding p g =
+unfoldable pub entered : Process → ℕ → Process
+entered p g =
     if (ltb (p .holds) 8) (changed p (p .regs) (p .slice) 0 (p .holds + 1) (set (p .held) (p .holds) g) (p .ended)) p
 
-unfoldable pub dropping : Process → Process
-dropping p = changed p (p .regs) (p .slice) (if (leb (p .holds) 1) 2 0) (p .holds - 1) (p .held) (p .ended)
+unfoldable pub given : Process → Process
+given p = changed p (p .regs) (p .slice) (if (leb (p .holds) 1) 2 0) (p .holds - 1) (p .held) (p .ended)
 
 -- ---- a gate with its holder, its waiters and its cells
 abbrev pub withGate : Machine → ℕ → ℕ → Queue → List ℕ → Machine
@@ -43,7 +43,7 @@ sit m g c x = withGate m g ((gate m g) .holder) ((gate m g) .queue) (set ((gate 
 unfoldable pub grant : Machine → ℕ → ℕ → Machine
 grant m g h =
     with m
-    (set (m .processes) h (holding (proc m h) g))
+    (set (m .processes) h (entered (proc m h) g))
     (set (m .gates) g (record { holder = h; queue = (gate m g) .queue; cells = (gate m g) .cells }))
     (m .ready)
     (m .running)
@@ -51,7 +51,7 @@ grant m g h =
 unfoldable pub giveUp : Machine → ℕ → ℕ → Machine
 giveUp m g h =
     with m
-    (set (m .processes) h (dropping (proc m h)))
+    (set (m .processes) h (given (proc m h)))
     (set (m .gates) g (record { holder = nobody; queue = (gate m g) .queue; cells = (gate m g) .cells }))
     (m .ready)
     (m .running)
@@ -60,22 +60,22 @@ giveUp m g h =
 unfoldable pub pass : Machine → ℕ → ℕ → Machine
 pass m g h = wake (grant m g h) h
 
-unfoldable pub release : Machine → ℕ → Machine
-release m g = if (eqb ((gate m g) .queue .len) 0) m (pass (advance m g) g (first ((gate m g) .queue)))
+unfoldable pub handOn : Machine → ℕ → Machine
+handOn m g = if (eqb ((gate m g) .queue .len) 0) m (pass (advance m g) g (first ((gate m g) .queue)))
 
 -- ---- the operations of the running process, where no fault forbids them
 -- "Enter: open, the caller holds it; shut, the caller waits last"
 unfoldable pub enter : Machine → ℕ → Machine
 enter m g =
-    if (leb nobody ((gate m g) .holder)) (grant m g (m .running)) (join (run m nobody) g (m .running))
+    if (leb nobody ((gate m g) .holder)) (grant m g (m .running)) (join (setRunning m nobody) g (m .running))
 
 -- "Leave: the first waiter holds, else the gate opens"
 unfoldable pub leave : Machine → ℕ → Machine
-leave m g = release (giveUp m g (m .running)) g
+leave m g = handOn (giveUp m g (m .running)) g
 
 -- "Delay: the caller sits in the cell, and the gate is given up as in leave"
 unfoldable pub delay : Machine → ℕ → ℕ → Machine
-delay m g c = release (sit (giveUp (run m nobody) g (m .running)) g c (m .running)) g
+delay m g c = handOn (sit (giveUp (setRunning m nobody) g (m .running)) g c (m .running)) g
 
 abbrev pub cell : Machine → ℕ → ℕ → ℕ
 cell m g c = getD ((gate m g) .cells) c 0

@@ -5,7 +5,7 @@ use lib.Dec.{ltb, eqb}
 use lib.ListN.{set}
 use Rattle.notation.specs.If.{if}
 use Rattle.machine.specs.declared.Regs.{Regs}
-use Rattle.machine.specs.View.{View, next, Done, done, faulted, n, op}
+use Rattle.machine.specs.View.{View, next, Effect, effect, faulted, n, op}
 
 -- "Then C, B and S are as before the call (the p words stay), the process goes on after CALLPROG's arguments, a pending stop is gone"
 abbrev pub afterJob : Regs → ℕ → Regs
@@ -13,11 +13,11 @@ afterJob r s =
     record { address = r .«saved_address»; line = r .line; s = s; b = r .«saved_b»; c = 4096; «in_job» = false; «saved_s» = 0; «saved_b» = 0; «saved_address» = 0; p = 0; reason = 0 }
 
 -- "and the result is pushed; if there is no room, the machine stops with 6"
-unfoldable pub endJob : View → ℕ → Done
+unfoldable pub endJob : View → ℕ → Effect
 endJob v result =
     let s : ℕ = v .regs .«saved_s» - 1 in
     if (ltb (v .floor) (v .regs .«saved_s»))
-    (done (next (afterJob (v .regs) s)) (v .common) (set (v .own) (s - 2048) result))
+    (effect (next (afterJob (v .regs) s)) (v .common) (set (v .own) (s - 2048) result))
     (faulted v 6)
 
 -- "at a FALSEJUMP with a stop pending, tested before its faults"

@@ -19,11 +19,11 @@ loadChecks bytes common private code = checks bytes (refuse 6 (not (storesFit co
 -- the fresh machine with both stores cleared, and the code buffer; or the refusal, with its number and what it names
 pub data Loading : Type 0 where
   loaded : World → List ℕ → Loading
-  refuses : ℕ → List ℕ → Loading
+  unloaded : ℕ → List ℕ → Loading
 
 abbrev pub loadedBy : Reply → Loading → Loading
 loadedBy (taken vs) x = x
-loadedBy (refused k vs) x = refuses k vs
+loadedBy (refused k vs) x = unloaded k vs
 
 unfoldable pub loads : List ℕ → List ℕ → List ℕ → List ℕ → Loading
 loads bytes common private code =
@@ -35,12 +35,12 @@ loads bytes common private code =
 -- the stores and the code buffer after an offer to load; a refusal changes nothing
 abbrev pub commonAfter : Loading → List ℕ → List ℕ
 commonAfter (loaded w c) common = w .common
-commonAfter (refuses k vs) common = common
+commonAfter (unloaded k vs) common = common
 
 abbrev pub privateAfter : Loading → List ℕ → List ℕ
 privateAfter (loaded w c) private = w .private
-privateAfter (refuses k vs) private = private
+privateAfter (unloaded k vs) private = private
 
 abbrev pub bufferAfter : Loading → List ℕ → List ℕ
 bufferAfter (loaded w c) code = c
-bufferAfter (refuses k vs) code = code
+bufferAfter (unloaded k vs) code = code

@@ -2,13 +2,13 @@
 use mathlib.Core.List.{List}
 use Prim.Native.Nat.{ℕ, zero, suc, _+_}
 use Rattle.machine.specs.Store.{World}
-use Rattle.machine.specs.Step.{Ended, onward, idle, device, stopped, Stepped, stepped, step}
+use Rattle.machine.specs.Step.{Ended, onward, idle, starting, stopped, Stepped, stepped, step}
 
 -- what follows a step: the rest of the run, with the step's count added, or the run's end
 abbrev pub goesOn : Ended → Stepped → Stepped → Stepped
 goesOn onward s more = stepped (more .world) (more .ended) (s .count + more .count)
 goesOn idle s more = s
-goesOn (device d) s more = s
+goesOn (starting d) s more = s
 goesOn stopped s more = s
 
 -- a run that ends onward has used its budget

@@ -14,7 +14,7 @@ use Rattle.machine.specs.declared.Regs.{Regs}
 use Rattle.machine.specs.declared.Process.{Process}
 use Rattle.machine.specs.declared.Device.{Device}
 use Rattle.machine.specs.declared.Machine.{Machine}
-use Rattle.machine.specs.State.{nobody, going, proc, gate, ready, device}
+use Rattle.machine.specs.State.{nobody, going, proc, floorOf, gate, ready, device}
 use Rattle.machine.specs.Store.{whole}
 use Rattle.machine.specs.Device.{isPresent, isBusy}
 
@@ -116,7 +116,7 @@ unfoldable pub marksOk : ℕ → Process → Bool
 marksOk n p =
     let r : Regs = p .regs in
     leb (p .variables) 1024
-    && leb (2048 + p .variables) (r .s)
+    && leb (floorOf p) (r .s)
     && leb (r .s) (r .b)
     && leb (r .b) (r .c)
     && leb (r .address) n

@@ -49,6 +49,10 @@ ready m c = getD (m .ready) c noQueue
 abbrev pub device : Machine → ℕ → Device
 device m d = getD (m .devices) d noDevice
 
+-- "floor L = 2048 + V"
+abbrev pub floorOf : Process → ℕ
+floorOf p = 2048 + p .variables
+
 -- ---- the state that loading leaves: "process 0 runs at address 0, class 2, stack empty, all counters 0"
 unfoldable pub started : ℕ → ℕ → Process
 started address v =
@@ -158,5 +162,5 @@ changed p regs slice class holds held ended =
 abbrev pub withRegs : Process → Regs → Process
 withRegs p r = changed p r (p .slice) (p .class) (p .holds) (p .held) (p .ended)
 
-abbrev pub ranked : Process → ℕ → Process
-ranked p class = changed p (p .regs) (p .slice) class (p .holds) (p .held) (p .ended)
+abbrev pub withClass : Process → ℕ → Process
+withClass p class = changed p (p .regs) (p .slice) class (p .holds) (p .held) (p .ended)

@@ -6,9 +6,9 @@ use lib.Dec.{ltb, leb, eqb}
 use lib.ListN.{length}
 use Rattle.notation.specs.If.{if}
 use Rattle.machine.specs.declared.Machine.{Machine}
-use Rattle.machine.specs.State.{nobody, going, proc, timed, withProcess, withRegs}
+use Rattle.machine.specs.State.{nobody, going, proc, floorOf, timed, withProcess, withRegs}
 use Rattle.machine.specs.Store.{World, partOf, withPart}
-use Rattle.machine.specs.View.{View, Out, next, faults, calls, Done}
+use Rattle.machine.specs.View.{View, Out, next, faults, calls, Effect}
 use Rattle.machine.specs.Instruction.{instruct}
 use Rattle.machine.specs.Classes.{select}
 use Rattle.machine.specs.Call.{Called, on, starts, stops, kernel}
@@ -17,13 +17,13 @@ use Rattle.machine.specs.Call.{Called, on, starts, stops, kernel}
 abbrev pub view : List ℕ → World → View
 view code w =
     let i : ℕ = w .machine .running in
-    record { code = code; floor = 2048 + (proc (w .machine) i) .variables; holding = ltb 0 ((proc (w .machine) i) .holds); regs = (proc (w .machine) i) .regs; common = w .common; own = partOf i (w .private) }
+    record { code = code; floor = floorOf (proc (w .machine) i); holding = ltb 0 ((proc (w .machine) i) .holds); regs = (proc (w .machine) i) .regs; common = w .common; own = partOf i (w .private) }
 
 -- ---- how a step ended: with nothing to tell, also where nobody is left to run; nobody ran; a device has started; the machine has stopped
 pub data Ended : Type 0 where
   onward : Ended
   idle : Ended
-  device : ℕ → Ended
+  starting : ℕ → Ended
   stopped : Ended
 
 -- the world after a step, how it ended, and how many instructions it counts
@@ -49,7 +49,7 @@ halted w f =
 
 abbrev pub called : World → Called → Stepped
 called w (on v) = stepped (selected v) onward 1
-called w (starts d v) = stepped (selected v) (device d) 1
+called w (starts d v) = stepped (selected v) (starting d) 1
 called w (stops f) = halted w f
 
 abbrev pub resulted : World → Out → List ℕ → List ℕ → Stepped
@@ -61,5 +61,5 @@ resulted w (calls k) common part = called w (kernel w k)
 -- "a step on an idle machine changes nothing and counts 0"
 unfoldable pub step : List ℕ → World → Stepped
 step code w =
-    let d : Done = instruct (view code w) in
+    let d : Effect = instruct (view code w) in
     if (leb nobody (w .machine .running)) (stepped w idle 0) (resulted w (d .out) (d .common) (d .own))

@@ -25,13 +25,13 @@ pub data Out : Type 0 where
   calls : ℕ → Out
 
 -- with the stores after it
-pub record Done : Type 0 where
+pub record Effect : Type 0 where
   pub out : Out
   pub common : List ℕ
   pub own : List ℕ
 
-abbrev pub done : Out → List ℕ → List ℕ → Done
-done o c q = record { out = o; common = c; own = q }
+abbrev pub effect : Out → List ℕ → List ℕ → Effect
+effect o c q = record { out = o; common = c; own = q }
 
 -- ---- the words that the instructions are told in
 -- the code length n, the code word, argument j after it, the address k words on
@@ -63,41 +63,41 @@ marks r address line s b =
     record { address = address; line = line; s = s; b = b; c = r .c; «in_job» = r .«in_job»; «saved_s» = r .«saved_s»; «saved_b» = r .«saved_b»; «saved_address» = r .«saved_address»; p = r .p; reason = r .reason }
 
 -- a faulting instruction does none of its own work
-abbrev pub faulted : View → ℕ → Done
-faulted v f = done (faults f) (v .common) (v .own)
+abbrev pub faulted : View → ℕ → Effect
+faulted v f = effect (faults f) (v .common) (v .own)
 
 -- the process goes on at an address with S; no store changes, or its own word at a does
-abbrev pub goes : View → ℕ → ℕ → Done
-goes v address s = done (next (marks (v .regs) address (v .regs .line) s (v .regs .b))) (v .common) (v .own)
+abbrev pub goes : View → ℕ → ℕ → Effect
+goes v address s = effect (next (marks (v .regs) address (v .regs .line) s (v .regs .b))) (v .common) (v .own)
 
-abbrev pub goesWith : View → ℕ → ℕ → ℕ → ℕ → Done
+abbrev pub goesWith : View → ℕ → ℕ → ℕ → ℕ → Effect
 goesWith v address s a w =
-    done (next (marks (v .regs) address (v .regs .line) s (v .regs .b))) (v .common) (set (v .own) (a - 2048) w)
+    effect (next (marks (v .regs) address (v .regs .line) s (v .regs .b))) (v .common) (set (v .own) (a - 2048) w)
 
 -- the faults that all share, in their order: missing arguments, of an instruction k words long; too few stack words (S to B - 1 count);
 -- a taken target at or past n; the stack's limit
-abbrev pub needsCode : View → ℕ → Done → Done
+abbrev pub needsCode : View → ℕ → Effect → Effect
 needsCode v k d = if (leb (past v k) (n v)) d (faulted v 7)
 
-abbrev pub needsWords : View → ℕ → Done → Done
+abbrev pub needsWords : View → ℕ → Effect → Effect
 needsWords v k d = if (leb (v .regs .s + k) (v .regs .b)) d (faulted v 7)
 
-abbrev pub toTarget : View → ℕ → Done → Done
+abbrev pub toTarget : View → ℕ → Effect → Effect
 toTarget v t d = if (ltb t (n v)) d (faulted v 7)
 
-abbrev pub needsRoom : View → ℕ → Done → Done
+abbrev pub needsRoom : View → ℕ → Effect → Effect
 needsRoom v k d = if (leb (v .floor + k) (v .regs .s)) d (faulted v 6)
 
 -- on at an address, with a result that is pushed, or stands at S instead of the words popped, or is only tested; or it is a fault
-abbrev pub pushes : View → ℕ → Reckoned → Done
+abbrev pub pushes : View → ℕ → Reckoned → Effect
 pushes v a (word w) = needsRoom v 1 (goesWith v a (v .regs .s - 1) (v .regs .s - 1) w)
 pushes v a (fault f) = faulted v f
 
-abbrev pub replaces : View → ℕ → ℕ → Reckoned → Done
+abbrev pub replaces : View → ℕ → ℕ → Reckoned → Effect
 replaces v a s (word w) = goesWith v a s s w
 replaces v a s (fault f) = faulted v f
 
-abbrev pub stays : View → ℕ → Reckoned → Done
+abbrev pub stays : View → ℕ → Reckoned → Effect
 stays v a (word w) = goes v a (v .regs .s)
 stays v a (fault f) = faulted v f
 
@@ -113,9 +113,9 @@ fetched v (inCommon k) = word (getD (v .common) k 0)
 fetched v (inOwn k) = word (getD (v .own) k 0)
 fetched v nowhere = fault 2
 
-abbrev pub stores : View → Place → ℕ → ℕ → Done
-stores v (inCommon k) w s = done (next (marks (v .regs) (past v 1) (v .regs .line) s (v .regs .b))) (set (v .common) k w) (v .own)
-stores v (inOwn k) w s = done (next (marks (v .regs) (past v 1) (v .regs .line) s (v .regs .b))) (v .common) (set (v .own) k w)
+abbrev pub stores : View → Place → ℕ → ℕ → Effect
+stores v (inCommon k) w s = effect (next (marks (v .regs) (past v 1) (v .regs .line) s (v .regs .b))) (set (v .common) k w) (v .own)
+stores v (inOwn k) w s = effect (next (marks (v .regs) (past v 1) (v .regs .line) s (v .regs .b))) (v .common) (set (v .own) k w)
 stores v nowhere w s = faulted v 2
 
 -- k words from a place on become zero

@@ -9,9 +9,9 @@ use Rattle.notation.proofs.Upto.{split}
 use Rattle.word.specs.Word.{Reckoned, word, fault, unaryW, binaryW, localAddrW, rangeW, indexW, caseW}
 use Rattle.machine.specs.declared.Regs.{Regs}
 use Rattle.machine.specs.Store.{Place, inCommon, inOwn, nowhere}
-use Rattle.machine.specs.View.{View, Out, next, faults, calls, Done, done, n, op, arg, past, local, top, under, faulted, needsCode, needsWords, toTarget, needsRoom, pushes, replaces, stays, located, fetched, stores}
+use Rattle.machine.specs.View.{View, Out, next, faults, calls, Effect, effect, n, op, arg, past, local, top, under, faulted, needsCode, needsWords, toTarget, needsRoom, pushes, replaces, stays, located, fetched, stores}
 use Rattle.machine.specs.Job.{endJob, takesStop}
-use Rattle.machine.specs.Instruction.{newline, pushconst, pushind, copyword, localaddr, pop, index, range, unary, binary, jump, falsejump, taken, casejump, call, enter, exit, callprog, exitprog, ktrap, perform, execute, settled, instruct}
+use Rattle.machine.specs.Instruction.{newline, pushconst, pushind, copyword, localaddr, pop, index, range, unary, binary, jump, falsejump, toCase, casejump, call, enter, exit, callprog, exitprog, ktrap, perform, execute, settled, instruct}
 use Rattle.promises.specs.Faults.{FaultsKeep, StopsKeep, CallsKeep}
 
 abbrev Stored : View → Out → List ℕ → List ℕ → Type 0
@@ -19,30 +19,30 @@ Stored v (next r) c q = Unit {0}
 Stored v (faults f) c q = (c ≡ v .common) × (q ≡ v .own)
 Stored v (calls k) c q = (c ≡ v .common) × (q ≡ v .own)
 
-record Kept (v : View) (d : Done) : Type 0 where
+record Kept (v : View) (d : Effect) : Type 0 where
   stores : Stored v (d .out) (d .common) (d .own)
 
 module _ (v : View) where
-  either : (b : Bool) {d e : Done} → Kept v d → Kept v e → Kept v (if b d e)
+  either : (b : Bool) {d e : Effect} → Kept v d → Kept v e → Kept v (if b d e)
   either b s t = split b (λ e. rw e s) (λ e. rw e t)
 
   fails : (f : ℕ) → Kept v (faulted v f)
   fails f = record { stores = (refl, refl) }
 
-  goes-on : {r : Regs} {c q : List ℕ} → Kept v (done (next r) c q)
+  goes-on : {r : Regs} {c q : List ℕ} → Kept v (effect (next r) c q)
   goes-on = record { stores = tt }
 
   -- ---- the words that the instructions are told in
-  with-code : (k : ℕ) {d : Done} → Kept v d → Kept v (needsCode v k d)
+  with-code : (k : ℕ) {d : Effect} → Kept v d → Kept v (needsCode v k d)
   with-code k s = either (leb (past v k) (n v)) s (fails 7)
 
-  with-words : (k : ℕ) {d : Done} → Kept v d → Kept v (needsWords v k d)
+  with-words : (k : ℕ) {d : Effect} → Kept v d → Kept v (needsWords v k d)
   with-words k s = either (leb (v .regs .s + k) (v .regs .b)) s (fails 7)
 
-  with-target : (t : ℕ) {d : Done} → Kept v d → Kept v (toTarget v t d)
+  with-target : (t : ℕ) {d : Effect} → Kept v d → Kept v (toTarget v t d)
   with-target t s = either (ltb t (n v)) s (fails 7)
 
-  with-room : (k : ℕ) {d : Done} → Kept v d → Kept v (needsRoom v k d)
+  with-room : (k : ℕ) {d : Effect} → Kept v d → Kept v (needsRoom v k d)
   with-room k s = either (leb (v .floor + k) (v .regs .s)) s (fails 6)
 
   pushes-kept : (a : ℕ) (r : Reckoned) → Kept v (pushes v a r)
@@ -57,7 +57,7 @@ module _ (v : View) where
   stays-kept a (word x) = goes-on
   stays-kept a (fault f) = fails f
 
-  taken-kept : (r : Reckoned) → Kept v (taken v r)
+  taken-kept : (r : Reckoned) → Kept v (toCase v r)
   taken-kept (word k) = with-target (arg v (3 + k)) goes-on
   taken-kept (fault f) = fails f
 
@@ -105,7 +105,7 @@ module _ (v : View) where
   unfolding execute
   execute-kept = either (ltb (v .regs .address) (n v)) (perform-kept (op v)) (fails 7)
 
-  settled-kept : (o : Out) {d : Done} → Kept v d → Kept v (settled v o d)
+  settled-kept : (o : Out) {d : Effect} → Kept v d → Kept v (settled v o d)
   settled-kept (next r) k = k
   settled-kept (faults f) k = either (v .regs .«in_job») (end-kept f) k
   settled-kept (calls c) k = k
@@ -115,10 +115,10 @@ module _ (v : View) where
   instruct-kept = either (takesStop v) (end-kept (v .regs .reason)) (settled-kept ((execute v) .out) execute-kept)
 
   -- ---- what it answers tells the stores after it
-  answered : {d : Done} {o : Out} → Kept v d → d .out ≡ o → Stored v o (d .common) (d .own)
+  answered : {d : Effect} {o : Out} → Kept v d → d .out ≡ o → Stored v o (d .common) (d .own)
   answered {d} k e = subst (λ o. Stored v o (d .common) (d .own)) e (k .stores)
 
-  all-same : (d : Done) (o : Out) → d .out ≡ o → (d .common ≡ v .common) × (d .own ≡ v .own) → d ≡ done o (v .common) (v .own)
+  all-same : (d : Effect) (o : Out) → d .out ≡ o → (d .common ≡ v .common) × (d .own ≡ v .own) → d ≡ effect o (v .common) (v .own)
   all-same d o e s = rw (← e, ← s .0, ← s .1)
 
 pub faults-keep : FaultsKeep

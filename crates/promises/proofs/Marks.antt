@@ -14,9 +14,9 @@ use Rattle.notation.proofs.Upto.{split, both}
 use Rattle.word.specs.Word.{Reckoned, word, fault, unaryW, binaryW, localAddrW, rangeW, indexW, caseW}
 use Rattle.machine.specs.declared.Regs.{Regs}
 use Rattle.machine.specs.Store.{placeOf}
-use Rattle.machine.specs.View.{View, Out, next, faults, calls, Done, done, n, op, arg, past, local, top, under, marks, faulted, goesWith, needsCode, needsWords, toTarget, needsRoom, pushes, replaces, stays, inRegion, located, fetched, stores, cleared}
+use Rattle.machine.specs.View.{View, Out, next, faults, calls, Effect, effect, n, op, arg, past, local, top, under, marks, faulted, goesWith, needsCode, needsWords, toTarget, needsRoom, pushes, replaces, stays, inRegion, located, fetched, stores, cleared}
 use Rattle.machine.specs.Job.{endJob, takesStop}
-use Rattle.machine.specs.Instruction.{newline, pushconst, pushind, copyword, localaddr, pop, index, range, unary, binary, jump, falsejump, taken, casejump, call, enter, exit, callprog, exitprog, ktrap, perform, execute, settled, instruct}
+use Rattle.machine.specs.Instruction.{newline, pushconst, pushind, copyword, localaddr, pop, index, range, unary, binary, jump, falsejump, toCase, casejump, call, enter, exit, callprog, exitprog, ktrap, perform, execute, settled, instruct}
 use Rattle.machine.specs.Sound.{jobOk}
 use Rattle.promises.specs.Marks.{Ordered, Fit, MarksKept, StoresKept, JobRegion}
 use Rattle.promises.proofs.Rows.{row-sets}
@@ -39,7 +39,7 @@ record Own (v : View) (q : List ℕ) : Type 0 where
   long : length q ≡ 2048
   job : v .regs .«in_job» ≡ true → (k : ℕ) → Outside v k → getD q k 0 ≡ getD (v .own) k 0
 
-record Kept (v : View) (d : Done) : Type 0 where
+record Kept (v : View) (d : Effect) : Type 0 where
   marks : Marked v (d .out)
   common : Common v (d .common)
   own : Own v (d .own)
@@ -84,35 +84,35 @@ module _ (v : View) (fit : Fit v) where
       rw (row-sets q i m zeros e (omega (arith, high, o .long))) (own-sets o i zeros l (omega arith))
 
   -- ---- the words that the instructions are told in
-  if-kept : (b : Bool) {d e : Done} → (b ≡ true → Kept v d) → (b ≡ false → Kept v e) → Kept v (if b d e)
+  if-kept : (b : Bool) {d e : Effect} → (b ≡ true → Kept v d) → (b ≡ false → Kept v e) → Kept v (if b d e)
   if-kept b f g = split b (λ t. rw t (f t)) (λ t. rw t (g t))
 
-  either : (b : Bool) {d e : Done} → Kept v d → Kept v e → Kept v (if b d e)
+  either : (b : Bool) {d e : Effect} → Kept v d → Kept v e → Kept v (if b d e)
   either b s t = if-kept b (λ _. s) (λ _. t)
 
   fails : (f : ℕ) → Kept v (faulted v f)
   fails f = record { marks = tt; common = common-same; own = own-same }
 
-  needs : (a b f : ℕ) {d : Done} → (a ≤ b → Kept v d) → Kept v (if (leb a b) d (faulted v f))
+  needs : (a b f : ℕ) {d : Effect} → (a ≤ b → Kept v d) → Kept v (if (leb a b) d (faulted v f))
   needs a b f s = if-kept (leb a b) (λ t. s (leb-true a b t)) (λ t. fails f)
 
-  with-code : (k : ℕ) {d : Done} → (past v k ≤ n v → Kept v d) → Kept v (needsCode v k d)
+  with-code : (k : ℕ) {d : Effect} → (past v k ≤ n v → Kept v d) → Kept v (needsCode v k d)
   with-code k = needs (past v k) (n v) 7
 
-  with-words : (k : ℕ) {d : Done} → (v .regs .s + k ≤ v .regs .b → Kept v d) → Kept v (needsWords v k d)
+  with-words : (k : ℕ) {d : Effect} → (v .regs .s + k ≤ v .regs .b → Kept v d) → Kept v (needsWords v k d)
   with-words k = needs (v .regs .s + k) (v .regs .b) 7
 
-  with-target : (t : ℕ) {d : Done} → (t < n v → Kept v d) → Kept v (toTarget v t d)
+  with-target : (t : ℕ) {d : Effect} → (t < n v → Kept v d) → Kept v (toTarget v t d)
   with-target t = needs (suc t) (n v) 7
 
-  with-room : (k : ℕ) {d : Done} → (v .floor + k ≤ v .regs .s → Kept v d) → Kept v (needsRoom v k d)
+  with-room : (k : ℕ) {d : Effect} → (v .floor + k ≤ v .regs .s → Kept v d) → Kept v (needsRoom v k d)
   with-room k = needs (v .floor + k) (v .regs .s) 6
 
   -- ---- the process goes on: with registers in order, of which the job's are in their ranges
   abbrev Stands : Regs → Type 0
   Stands r = (v .floor ≤ r .s) × (r .s ≤ r .b) × (r .b ≤ r .c) × (r .address ≤ n v)
 
-  next-kept : {r : Regs} {c q : List ℕ} → jobOk (n v) r ≡ true → Stands r → Common v c → Own v q → Kept v (done (next r) c q)
+  next-kept : {r : Regs} {c q : List ℕ} → jobOk (n v) r ≡ true → Stands r → Common v c → Own v q → Kept v (effect (next r) c q)
   next-kept j h c o =
       record {
         marks = record { low = fit .ordered .low; stack = h .0; frame = h .1; ceiling = h .2; address = h .3; job = j };
@@ -122,12 +122,12 @@ module _ (v : View) (fit : Fit v) where
 
   -- the job's registers are as before
   goes-over : {a line s b : ℕ} {c q : List ℕ} → Stands (marks (v .regs) a line s b) → Common v c → Own v q
-      → Kept v (done (next (marks (v .regs) a line s b)) c q)
+      → Kept v (effect (next (marks (v .regs) a line s b)) c q)
   unfolding jobOk
   goes-over h c o = next-kept (fit .ordered .job) h c o
 
   goes-on : {a line s b : ℕ} → Stands (marks (v .regs) a line s b)
-      → Kept v (done (next (marks (v .regs) a line s b)) (v .common) (v .own))
+      → Kept v (effect (next (marks (v .regs) a line s b)) (v .common) (v .own))
   goes-on h = goes-over h common-same own-same
 
   -- with a word of the stack at S
@@ -184,7 +184,7 @@ module _ (v : View) (fit : Fit v) where
         (λ c. with-words 1
         (λ t. either (eqb (top v) 0) (with-target (arg v 1) (λ g. goes-on (omega arith))) (goes-on (omega arith))))
 
-    taken-kept : (r : Reckoned) → v .regs .s + 1 ≤ v .regs .b → Kept v (taken v r)
+    taken-kept : (r : Reckoned) → v .regs .s + 1 ≤ v .regs .b → Kept v (toCase v r)
     taken-kept (word k) h = with-target (arg v (3 + k)) (λ g. goes-on (omega arith))
     taken-kept (fault f) h = fails f
 
@@ -268,7 +268,7 @@ module _ (v : View) (fit : Fit v) where
   execute-kept = needs (suc (v .regs .address)) (n v) 7 (λ runs. perform-kept runs (op v))
 
   -- ---- one instruction with its job
-  settled-kept : (o : Out) {d : Done} → Kept v d → Kept v (settled v o d)
+  settled-kept : (o : Out) {d : Effect} → Kept v d → Kept v (settled v o d)
   settled-kept (next r) k = k
   settled-kept (faults f) k = if-kept (v .regs .«in_job») (end-kept f) (λ t. k)
   settled-kept (calls c) k = k

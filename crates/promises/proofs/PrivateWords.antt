@@ -10,7 +10,7 @@ use borrow.Author.Tests.{leb-false}
 use Rattle.notation.proofs.Upto.{split}
 use Rattle.machine.specs.State.{nobody, going}
 use Rattle.machine.specs.Store.{World}
-use Rattle.machine.specs.View.{Out, next, faults, calls, Done}
+use Rattle.machine.specs.View.{Out, next, faults, calls, Effect}
 use Rattle.machine.specs.Instruction.{instruct}
 use Rattle.machine.specs.Classes.{select}
 use Rattle.machine.specs.Call.{Called}
@@ -67,7 +67,7 @@ module _ (j : ℕ) (code : List ℕ) (w : World) (q : List ℕ) where
         split (leb nobody (w .machine .running))
         (λ t. rw t (refl, refl, record { machine = refl; common = refl; private = agree }))
         (λ t.
-        let d : Done = instruct (view code w) in
+        let d : Effect = instruct (view code w) in
         let s = sees (leb-false nobody (w .machine .running) t) in
         rw (t, ← same-part agree (w .machine .running) other)
         (resulted-same s (d .out) (d .common) (d .own) (stores-kept (view code w) (s .fit) .1)))

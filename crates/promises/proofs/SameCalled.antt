@@ -13,8 +13,8 @@ use Rattle.notation.proofs.Upto.{split, neither, list-same, length-list}
 use Rattle.machine.specs.declared.Machine.{Machine}
 use Rattle.machine.specs.Store.{World, placeOf, whole, wordIn}
 use Rattle.machine.specs.Gate.{enter, leave, delay, continue, mayEnter, mayLeave, mayDelay, mayContinue}
-use Rattle.machine.specs.Device.{written, isPresent, isBusy}
-use Rattle.machine.specs.Call.{Called, on, starts, stops, caller, floor, top, needsWords, needsRoom, same, pushed, newPart, onGate, onCell, ioBegins, call0, call1, call2, call3, call4, call5, call6, call7, call8, call9, call10, call11, kernel}
+use Rattle.machine.specs.Device.{withWord, isPresent, isBusy}
+use Rattle.machine.specs.Call.{Called, on, starts, stops, caller, floor, stackWord, hasWords, hasRoom, same, withTop, newPart, onGate, onCell, ioBegins, call0, call1, call2, call3, call4, call5, call6, call7, call8, call9, call10, call11, kernel}
 use Rattle.machine.specs.Step.{view}
 use Rattle.promises.specs.PrivateWords.{AgreeBut, DifferOnly}
 use Rattle.promises.specs.Marks.{Fit}
@@ -54,20 +54,20 @@ module _ (j : ℕ) (code : List ℕ) (w : World) (q : List ℕ) (sees : Sees j c
   goes-on : {m : Machine} → SameCalled j (on (same w m)) (on (same u m))
   goes-on = both-on (record { machine = refl; common = refl; private = sees .agree })
 
-  pushes-on : (m : Machine) (x : ℕ) → SameCalled j (on (pushed w m x)) (on (pushed u m x))
+  pushes-on : (m : Machine) (x : ℕ) → SameCalled j (on (withTop w m x)) (on (withTop u m x))
   pushes-on m x = both-on (record { machine = refl; common = refl; private = agree-set (sees .agree) _ x })
 
-  written-same : (m : Machine) (i a x : ℕ) → DifferOnly j (written (same w m) i a x) (written (same u m) i a x)
+  written-same : (m : Machine) (i a x : ℕ) → DifferOnly j (withWord (same w m) i a x) (withWord (same u m) i a x)
   written-same m i a x = record { machine = refl; common = refl; private = agree-with (sees .agree) (placeOf a) i x }
 
   with-words : (k : ℕ) {c c′ : Called} → ((caller w) .regs .s + k ≤ (caller w) .regs .b → SameCalled j c c′)
-      → SameCalled j (needsWords w k c) (needsWords u k c′)
+      → SameCalled j (hasWords w k c) (hasWords u k c′)
   with-words k s = if-same (leb ((caller w) .regs .s + k) ((caller w) .regs .b)) (λ t. s (leb-true _ _ t)) (λ t. both-stop 7)
 
-  with-room : {c c′ : Called} → SameCalled j c c′ → SameCalled j (needsRoom w c) (needsRoom u c′)
+  with-room : {c c′ : Called} → SameCalled j c c′ → SameCalled j (hasRoom w c) (hasRoom u c′)
   with-room s = either (leb (floor w + 1) ((caller w) .regs .s)) s (both-stop 6)
 
-  word : (k : ℕ) → (caller w) .regs .s + k < (caller w) .regs .b → top w k ≡ top u k
+  word : (k : ℕ) → (caller w) .regs .s + k < (caller w) .regs .b → stackWord w k ≡ stackWord u k
   word k l =
       let high = job-high _ ((caller w) .regs) (sees .fit .ordered .job) in
       same-at (sees .agree) (w .machine .running) (sees .other) ((caller w) .regs .s + k - 2048) (omega arith)
@@ -78,9 +78,9 @@ module _ (j : ℕ) (code : List ℕ) (w : World) (q : List ℕ) (sees : Sees j c
   unfolding newPart
   agree-part p l small few =
       let at : ℕ = 2048 * w .machine .created in
-      let words : List ℕ = listTo (λ k. top w (2 + p - k)) p in
+      let words : List ℕ = listTo (λ k. stackWord w (2 + p - k)) p in
       let zeros : List ℕ = replicate (2048 - p) 0 in
-      let e : words ≡ listTo (λ k. top u (2 + p - k)) p = list-same _ _ 0 0 p (λ k m. word (2 + p - (0 + k)) (omega arith)) in
+      let e : words ≡ listTo (λ k. stackWord u (2 + p - k)) p = list-same _ _ 0 0 p (λ k m. word (2 + p - (0 + k)) (omega arith)) in
       let n : length (words ++ zeros) ≡ 2048 = simp (length-append, length-list, length-replicate) (omega arith) in
       rw (← e, ← append-assoc words zeros (drop (at + 2048) (w .private)), ← append-assoc words zeros (drop (at + 2048) q))
       (agree-row (sees .agree) at 2048 (words ++ zeros) n (omega arith))
@@ -89,8 +89,8 @@ module _ (j : ℕ) (code : List ℕ) (w : World) (q : List ℕ) (sees : Sees j c
   unfolding call3
   same-call3 =
       let created : ℕ = w .machine .created in
-      let v : ℕ = top w 1 in
-      let p : ℕ = top w 2 in
+      let v : ℕ = stackWord w 1 in
+      let p : ℕ = stackWord w 2 in
       with-words 3
       (λ l. rw (← word 0 (omega arith), ← word 1 (omega arith), ← word 2 (omega arith))
       (if-same (not (eqb (w .machine .running) 0) || leb 10 created) (λ _. both-stop 9)
@@ -100,17 +100,17 @@ module _ (j : ℕ) (code : List ℕ) (w : World) (q : List ℕ) (sees : Sees j c
       let a = neither (not (eqb (w .machine .running) 0)) (leb 10 created) few in
       let b = neither (ltb 1024 v) (ltb v p) small in
       let part = agree-part p m (omega (arith, ltb-false)) (leb-false 10 created (a .1)) in
-      either (leb (w .machine .length) (top w 0)) (both-stop 7) (both-on (record { machine = refl; common = refl; private = part })))))))
+      either (leb (w .machine .length) (stackWord w 0)) (both-stop 7) (both-on (record { machine = refl; common = refl; private = part })))))))
 
   -- ---- 6 to 9: a gate named by one word; a gate and a cell named by two
   by-gate : (may : Machine → ℕ → Bool) (act : Machine → ℕ → Machine) → SameCalled j (onGate w may act) (onGate u may act)
   by-gate may act =
-      with-words 1 (λ t. rw (← word 0 (omega arith)) (either (may (w .machine) (top w 0)) goes-on (both-stop 8)))
+      with-words 1 (λ t. rw (← word 0 (omega arith)) (either (may (w .machine) (stackWord w 0)) goes-on (both-stop 8)))
 
   by-cell : (may : Machine → ℕ → ℕ → Bool) (act : Machine → ℕ → ℕ → Machine) → SameCalled j (onCell w may act) (onCell u may act)
   by-cell may act =
       with-words 2
-      (λ t. rw (← word 0 (omega arith), ← word 1 (omega arith)) (either (may (w .machine) (top w 1) (top w 0)) goes-on (both-stop 8)))
+      (λ t. rw (← word 0 (omega arith), ← word 1 (omega arith)) (either (may (w .machine) (stackWord w 1) (stackWord w 0)) goes-on (both-stop 8)))
 
   -- ---- 11: the record's operation is read, its status stored
   same-io : (d operation : ℕ) → (caller w) .regs .s + 2 ≤ (caller w) .regs .b → SameCalled j (ioBegins w d operation) (ioBegins u d operation)
@@ -126,10 +126,10 @@ module _ (j : ℕ) (code : List ℕ) (w : World) (q : List ℕ) (sees : Sees j c
   unfolding call11
   same-call11 =
       let i : ℕ = w .machine .running in
-      let operation : ℕ = wordIn (placeOf (top w 0)) i (w .common) (w .private) in
+      let operation : ℕ = wordIn (placeOf (stackWord w 0)) i (w .common) (w .private) in
       with-words 2
-      (λ l. rw (← word 0 (omega arith), ← word 1 (omega arith), ← same-word (sees .agree) i (sees .other) (top w 0) (w .common))
-      (either (whole (top w 0)) (either (leb (top w 1) 4 && leb operation 3) (same-io (top w 1) operation l) (both-stop 3)) (both-stop 2)))
+      (λ l. rw (← word 0 (omega arith), ← word 1 (omega arith), ← same-word (sees .agree) i (sees .other) (stackWord w 0) (w .common))
+      (either (whole (stackWord w 0)) (either (leb (stackWord w 1) 4 && leb operation 3) (same-io (stackWord w 1) operation l) (both-stop 3)) (both-stop 2)))
 
   pub same-kernel : (k : ℕ) → SameCalled j (kernel w k) (kernel u k)
   unfolding kernel call0 call1 call2 call4 call5 call6 call7 call8 call9 call10

@@ -7,7 +7,7 @@ use mathlib.Core.List.{List}
 use Prim.Native.Nat.{ℕ, _+_, _<_, _≤_}
 use lib.ListN.{length, getD}
 use Rattle.machine.specs.declared.Regs.{Regs}
-use Rattle.machine.specs.View.{View, next, Done, n}
+use Rattle.machine.specs.View.{View, next, Effect, n}
 use Rattle.machine.specs.Instruction.{instruct}
 use Rattle.machine.specs.Sound.{jobOk}
 

@@ -11,7 +11,7 @@ use Rattle.machine.specs.declared.Regs.{Regs}
 use Rattle.machine.specs.declared.Machine.{Machine}
 use Rattle.machine.specs.State.{nobody, proc, gate, fresh, timed}
 use Rattle.machine.specs.Queue.{queueOf}
-use Rattle.machine.specs.View.{View, Out, next, Done}
+use Rattle.machine.specs.View.{View, Out, next, Effect}
 use Rattle.machine.specs.Instruction.{instruct}
 use Rattle.machine.specs.Classes.{select}
 use Rattle.machine.specs.Gate.{cell, enter, leave, delay, continue, makeGate, mayEnter, mayLeave, mayDelay, mayContinue}
