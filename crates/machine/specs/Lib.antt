@@ -14,3 +14,4 @@ pub mod Run
 pub mod Sound
 pub mod Offer
 pub mod Load
+pub mod Release

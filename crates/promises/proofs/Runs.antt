@@ -25,7 +25,7 @@ at-most a b e f = leb-true a b (part (leb a b) e f)
 pub equal : {whole : Bool} (a b : ℕ) → whole ≡ true → (eqb a b ≡ false → whole ≡ false) → a ≡ b
 equal a b e f = eqb-true a b (part (eqb a b) e f)
 
-second : (a b : Bool) → a || b ≡ true → a ≡ false → b ≡ true
+pub second : (a b : Bool) → a || b ≡ true → a ≡ false → b ≡ true
 second a b e f = rw f at e
 
 -- ---- the registers of a job

@@ -5,3 +5,4 @@ pub mod Laws
 pub mod Marks
 pub mod PrivateWords
 pub mod Faults
+pub mod SoundKept
