@@ -29,7 +29,13 @@ lined-more t = lined-as t (λ q i l. omega arith)
 
 tended-more : {n : ℕ} {w : Gate} → Tended n w → Tended (n + 1) w
 tended-more k =
-    record { queue = lined-more (k .queue); room = k .room; cells = λ c l. known-more (k .cells c l); holder = known-more (k .holder); apart = k .apart }
+    record {
+      queue = lined-more (k .queue);
+      room = k .room;
+      cells = λ c l. known-more (k .cells c l);
+      holder = known-more (k .holder);
+      apart = k .apart;
+    }
 
 not-there : {n x : ℕ} → Known n x → n < nobody → sits n x ≡ 0
 not-there {n} {x} k b = sits-other n x (λ e. omega (arith, k .made (omega arith)))
@@ -45,7 +51,8 @@ not-tended {n} {w} k b =
     let c = sum-none (λ c. sits n (getD (w .cells) c 0)) 8 (λ c l. not-there (k .cells c l) b) in
     omega arith
 
-no-place : {m : Machine} {h x : ℕ} → m .created < nobody → Nearly m h x → waits m (m .created) + sits (m .created) (m .running) + isReady m (m .created) ≡ 0
+no-place : {m : Machine} {h x : ℕ} → m .created < nobody → Nearly m h x
+    → waits m (m .created) + sits (m .created) (m .running) + isReady m (m .created) ≡ 0
 unfolding waits isReady isAtGates
 no-place {m} b f =
     let n : ℕ = m .created in
@@ -61,7 +68,8 @@ pub started-none : (address v g : ℕ) → heldOf (started address v) g ≡ 0
 unfolding heldOf started sumTo
 started-none address v g = refl
 
-pub one-born : {m : Machine} {x : ℕ} (address v : ℕ) → m .created < nobody → address ≤ m .length → v ≤ 1024 → Nearly m nobody x → Nearly (born m address v) (m .created) x
+pub one-born : {m : Machine} {x : ℕ} (address v : ℕ) → m .created < nobody → address ≤ m .length → v ≤ 1024
+    → Nearly m nobody x → Nearly (born m address v) (m .created) x
 unfolding born started places isReady isAtGates waits
 one-born {m} address v b code small f =
     let ps : List Process = m .processes in
@@ -88,7 +96,8 @@ one-born {m} address v b code small f =
             ten = length-set ps n p ∙ f .processes .ten;
             held = all-set (λ j o. length (o .held) ≡ 8) ps n p noProcess 10 (f .processes .ten) b refl (f .processes .held);
             each = λ q c.
-                at-set (λ o. Steady (m .length) o) ps n p noProcess q l (λ e. steady-started _ address v code small) (λ t. f .processes .each q (omega (arith, t)));
+                at-set (λ o. Steady (m .length) o) ps n p noProcess q l
+                (λ e. steady-started _ address v code small) (λ e. f .processes .each q (omega (arith, e)));
           };
       gates =
           record {
@@ -118,7 +127,9 @@ one-born {m} address v b code small f =
           let k = f .each q i in
           omega (arith, sits-other q n e, nobody-sits q i f)) in
           omega arith;
-      jobs = λ q c. at-set (λ o. o .regs .«in_job» ≡ true → waits m q + bit (o .ended) ≡ 0) ps n p noProcess q l (λ e t. never (sym t)) (λ e. f .jobs q (omega (arith, e)));
+      jobs = λ q c.
+          at-set (λ o. o .regs .«in_job» ≡ true → waits m q + bit (o .ended) ≡ 0) ps n p noProcess q l
+          (λ e t. never (sym t)) (λ e. f .jobs q (omega (arith, e)));
       seven = λ q c t.
           at-set (λ o. o .holds ≤ 7) ps n p noProcess q l (λ e. omega arith) (λ e. f .seven q (omega (arith, e)) t);
       agree = λ q g c i.

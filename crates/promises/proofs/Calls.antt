@@ -187,7 +187,8 @@ module _ (w : World) (calls : Calls w) where
       goes (make-kept (calls .runs) (leb-false 25 (m .made) a) (omega arith) (passed-free s) (pushes l)))))
 
   -- ---- 11
-  fine-io : (d operation : ℕ) → d < 5 → leb operation 3 ≡ true → whole (stackWord w 0) ≡ true → p .regs .s + 2 ≤ p .regs .b → Fine (ioBegins w d operation)
+  fine-io : (d operation : ℕ) → d < 5 → leb operation 3 ≡ true → whole (stackWord w 0) ≡ true → p .regs .s + 2 ≤ p .regs .b
+      → Fine (ioBegins w d operation)
   unfolding ioBegins passed withProcess
   fine-io d operation small least one l =
       let s : ℕ = p .regs .s + 2 in
@@ -196,7 +197,8 @@ module _ (w : World) (calls : Calls w) where
       (λ t.
       let idle = neither (not (isPresent m d)) (isBusy m d) t in
       begins d
-      (device-start-kept (calls .runs) (passed-free s) (pops 2 l) d operation (stackWord w 0) small (ltb-false _ nobody (idle .1)) (rw (not-false (isPresent m d) (idle .0), least, one)))))
+      (device-start-kept (calls .runs) (passed-free s) (pops 2 l) d operation (stackWord w 0) small (ltb-false _ nobody (idle .1))
+      (rw (not-false (isPresent m d) (idle .0), least, one)))))
 
   fine-11 : Fine (call11 w)
   unfolding call11

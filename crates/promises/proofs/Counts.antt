@@ -31,10 +31,6 @@ pub all-set : {A : Type 0} (P : ℕ → A → Type 0) (l : List A) (i : ℕ) (x 
 all-set P l i x d n e b new old j c = at-set (P j) l i x d j (omega arith) (λ t. rw t new) (λ t. old j c)
 
 -- ---- a test as a number; who sits on a seat
-pub bit-most : (b : Bool) → bit b ≤ 1
-bit-most true = omega arith
-bit-most false = omega arith
-
 pub bit-none : (b : Bool) → bit b ≡ 0 → b ≡ false
 bit-none true e = absurd (omega arith)
 bit-none false e = refl
@@ -59,7 +55,7 @@ unfolding sumTo
 sum-none f zero h = refl
 sum-none f (suc n) h = let i = sum-none f n (λ k l. h k (omega arith)) in let e = h n (omega arith) in omega arith
 
-pub sum-first : (f : ℕ → ℕ) (n : ℕ) → sumTo f (suc n) ≡ f 0 + sumTo (λ k. f (suc k)) n
+sum-first : (f : ℕ → ℕ) (n : ℕ) → sumTo f (suc n) ≡ f 0 + sumTo (λ k. f (suc k)) n
 unfolding sumTo
 sum-first f zero = omega arith
 sum-first f (suc n) = let i = sum-first f n in omega arith
@@ -86,10 +82,12 @@ sum-set f l d (suc n) i x b h =
     rw (e, getD-set-same l n x d (omega arith)) (omega arith))
 
 -- ---- numbers in a row: one more, and without the first
-pub row-more : (l : List ℕ) (n q x : ℕ) → n < length l
+row-more : (l : List ℕ) (n q x : ℕ) → n < length l
     → sumTo (λ k. sits q (getD (set l n x) k 0)) (n + 1) ≡ sumTo (λ k. sits q (getD l k 0)) n + sits q x
 row-more l n q x h =
-    let s = sum-same (λ k. sits q (getD (set l n x) k 0)) (λ k. sits q (getD l k 0)) n (λ k b. rw (getD-set-other l n k x 0 (λ e. omega arith))) in
+    let s =
+    sum-same (λ k. sits q (getD (set l n x) k 0)) (λ k. sits q (getD l k 0)) n
+    (λ k b. rw (getD-set-other l n k x 0 (λ e. omega arith))) in
     let t = sum-last (λ k. sits q (getD (set l n x) k 0)) n in
     rw (add-one n, t, s, getD-set-same l n x 0 h)
 
@@ -160,7 +158,9 @@ unfolding inQueue rest
 in-rest {w = w} q t b =
     let n : ℕ = w .len - 1 in
     let e : w .len ≡ suc n = omega arith in
-    let s = sum-same (λ k. sits q (getD (shifted (w .at)) k 0)) (λ k. sits q (getD (w .at) (suc k) 0)) n (λ k l. rw (shifted-at (w .at) k (omega (arith, t .few)))) in
+    let s =
+    sum-same (λ k. sits q (getD (shifted (w .at)) k 0)) (λ k. sits q (getD (w .at) (suc k) 0)) n
+    (λ k l. rw (shifted-at (w .at) k (omega (arith, t .few)))) in
     let c = sum-first (λ k. sits q (getD (w .at) k 0)) n in
     let z : suc n - 1 ≡ n = omega arith in
     rw (e, c, z, s)

@@ -67,20 +67,24 @@ unfolding places isReady isAtGates waits
 queued {m} {h} {x} k g w f b o e s hand p free room =
     let gs : List Gate = m .gates in
     let c : g < 25 = omega (arith, f .numbers .fewGates) in
-    let l : g < length gs = omega (arith, f .gates .many) in
+    let many = f .gates .many in
+    let l : g < length gs = omega arith in
     let same : (j : ℕ) → (getD (set gs g w) j noGate) .holder ≡ (gate m j) .holder =
     λ j. at-set (λ z. z .holder ≡ (gate m j) .holder) gs g w noGate j l (λ t. rw t e) (λ t. refl) in
-    let sum : (q : ℕ) → sumTo (λ j. atGate q (getD (set gs g w) j noGate)) 25 + atGate q (gate m g) ≡ sumTo (λ j. atGate q (gate m j)) 25 + atGate q w =
-    λ q. sum-set (atGate q) gs noGate 25 g w c (omega (arith, f .gates .many)) in
+    let sum : (q : ℕ)
+    → sumTo (λ j. atGate q (getD (set gs g w) j noGate)) 25 + atGate q (gate m g) ≡ sumTo (λ j. atGate q (gate m j)) 25 + atGate q w =
+    λ q. sum-set (atGate q) gs noGate 25 g w c (omega arith) in
     record {
       numbers = f .numbers;
       processes = f .processes;
       gates =
           record {
-            many = length-set gs g w ∙ f .gates .many;
-            each = all-set (λ j z. Tended (m .created) z) gs g w noGate 25 (f .gates .many) c o (f .gates .each);
-            shut = all-set (λ j z. (j ≡ x → ⊥) → z .holder ≡ nobody → z .queue .len ≡ 0) gs g w noGate 25 (f .gates .many) c (λ n y. s n (sym e ∙ y)) (f .gates .shut);
-            unused = all-set (λ j z. m .made ≤ j → Unused z) gs g w noGate 25 (f .gates .many) c (λ n. absurd (omega arith)) (f .gates .unused);
+            many = length-set gs g w ∙ many;
+            each = all-set (λ j z. Tended (m .created) z) gs g w noGate 25 many c o (f .gates .each);
+            shut =
+                all-set (λ j z. (j ≡ x → ⊥) → z .holder ≡ nobody → z .queue .len ≡ 0) gs g w noGate 25 many c
+                (λ n y. s n (sym e ∙ y)) (f .gates .shut);
+            unused = all-set (λ j z. m .made ≤ j → Unused z) gs g w noGate 25 many c (λ n. absurd (omega arith)) (f .gates .unused);
           };
       classes = f .classes;
       clock = f .clock;
@@ -122,15 +126,16 @@ pub rebuilt : {m : Machine} {h x : ℕ} (k z p : ℕ) (v : Process) (gs : List G
 unfolding places isReady isAtGates waits
 rebuilt {m} {h} k z p v gs f b held ok gates same hand there others class job seven own agree =
     let ps : List Process = m .processes in
-    let l : p < length ps = omega (arith, f .numbers .few, f .processes .ten) in
+    let ten = f .processes .ten in
+    let l : p < length ps = omega (arith, f .numbers .few) in
     let sum : (q : ℕ) → sumTo (λ j. atGate q (getD gs j noGate)) 25 ≡ sumTo (λ j. atGate q (gate m j)) 25 =
     λ q. sum-same (λ j. atGate q (getD gs j noGate)) (λ j. atGate q (gate m j)) 25 (λ j i. same q j) in
     record {
       numbers = f .numbers;
       processes =
           record {
-            ten = length-set ps p v ∙ f .processes .ten;
-            held = all-set (λ j o. length (o .held) ≡ 8) ps p v noProcess 10 (f .processes .ten) (omega (arith, f .numbers .few)) held (f .processes .held);
+            ten = length-set ps p v ∙ ten;
+            held = all-set (λ j o. length (o .held) ≡ 8) ps p v noProcess 10 ten (omega arith) held (f .processes .held);
             each = λ q c. at-set (λ o. Steady (m .length) o) ps p v noProcess q l (λ e. ok) (λ n. f .processes .each q c);
           };
       gates = gates;
@@ -155,11 +160,14 @@ rebuilt {m} {h} k z p v gs f b held ok gates same hand there others class job se
           omega arith;
       jobs = λ q c t.
           let s = sum q in
-          let y = at-set (λ o. o .regs .«in_job» ≡ true → waits m q + bit (o .ended) ≡ 0) ps p v noProcess q l (λ e. rw e job) (λ n. f .jobs q c) t in
+          let y =
+          at-set (λ o. o .regs .«in_job» ≡ true → waits m q + bit (o .ended) ≡ 0) ps p v noProcess q l
+          (λ e. rw e job) (λ n. f .jobs q c) t in
           omega arith;
       seven = λ q c t.
           let s = sum q in
-          at-set (λ o. o .holds ≤ 7) ps p v noProcess q l (λ e. let t′ = rw e at t in let s′ = sum p in seven (omega arith)) (λ n. f .seven q c (omega arith));
+          at-set (λ o. o .holds ≤ 7) ps p v noProcess q l
+          (λ e. let t′ = rw e at t in let s′ = sum p in seven (omega arith)) (λ n. f .seven q c (omega arith));
       agree = λ q g c i.
           at-set (λ o. heldOf o g ≡ sits q ((getD gs g noGate) .holder)) ps p v noProcess q l
           (λ e. rw e (own g i)) (λ n. f .agree q g c i ∙ sym (agree q g c n i));
@@ -182,7 +190,16 @@ renumbered z made stop line seconds fraction few part tens second number gates f
     let n = f .numbers in
     record {
       numbers =
-          record { some = n .some; few = n .few; fewGates = few; header = n .header; fraction = part; tens = tens; seconds = second; stop = number };
+          record {
+            some = n .some;
+            few = n .few;
+            fewGates = few;
+            header = n .header;
+            fraction = part;
+            tens = tens;
+            seconds = second;
+            stop = number;
+          };
       processes = f .processes;
       gates = gates;
       classes = f .classes;

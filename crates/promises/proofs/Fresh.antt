@@ -40,14 +40,20 @@ open-gate n =
       apart = λ b. absurd (omega arith);
     }
 
+unused-gate : Unused newGate
+unused-gate = record { holder = refl; queue = refl; cells = alike (λ x. x ≡ nobody) 8 nobody 0 refl }
+
 module _ (h : Header) (ok : goodHeader h ≡ true) where
   abbrev m : Machine
   m = fresh h
 
   header : goodHeader (record { edition = h .edition; length = h .length; devices = h .devices; variables = 0 }) ≡ true
   header =
-      rw
-      (part (eqb (h .edition) 1) ok (λ t. rw t), part (leb 1 (h .length)) ok (λ t. simp (t, and-false)), part (leb (h .length) 16256) ok (λ t. simp (t, and-false)), part (leb (h .devices) 31) ok (λ t. simp (t, and-false)))
+      let edition = part (eqb (h .edition) 1) ok (λ t. rw t) in
+      let some = part (leb 1 (h .length)) ok (λ t. simp (t, and-false)) in
+      let most = part (leb (h .length) 16256) ok (λ t. simp (t, and-false)) in
+      let devices = part (leb (h .devices) 31) ok (λ t. simp (t, and-false)) in
+      rw (edition, some, most, devices)
 
   first-steady : Steady (h .length) (started 0 (h .variables))
   first-steady = steady-started (h .length) 0 (h .variables) (omega arith) (at-most (h .variables) 1024 ok (λ t. simp (t, and-false)))
@@ -76,7 +82,9 @@ module _ (h : Header) (ok : goodHeader h ≡ true) where
               processes =
                   record {
                     ten = refl;
-                    held = all-set (λ j o. length (o .held) ≡ 8) (replicate 10 (started 0 0)) 0 (started 0 (h .variables)) noProcess 10 refl (omega arith) refl (alike (λ o. length (o .held) ≡ 8) 10 (started 0 0) noProcess refl);
+                    held =
+                        all-set (λ j o. length (o .held) ≡ 8) (replicate 10 (started 0 0)) 0 (started 0 (h .variables)) noProcess 10 refl (omega arith)
+                        refl (alike (λ o. length (o .held) ≡ 8) 10 (started 0 0) noProcess refl);
                     each = only-zero (λ q. Steady (h .length) (proc m q)) first-steady;
                   };
               gates =
@@ -84,7 +92,7 @@ module _ (h : Header) (ok : goodHeader h ≡ true) where
                     many = refl;
                     each = alike (λ w. Tended 1 w) 25 newGate noGate (open-gate 1);
                     shut = λ g l n e. alike (λ w. w .queue .len ≡ 0) 25 newGate noGate refl g l;
-                    unused = λ g l b. alike (λ w. Unused w) 25 newGate noGate (record { holder = refl; queue = refl; cells = alike (λ x. x ≡ nobody) 8 nobody 0 refl }) g l;
+                    unused = λ g l b. alike (λ w. Unused w) 25 newGate noGate unused-gate g l;
                   };
               classes = record { three = refl; each = λ c. alike (Lined (InClass 1 (m .processes) c)) 3 newQueue noQueue (nobody-lined _) c };
               clock = nobody-lined _;

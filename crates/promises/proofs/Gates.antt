@@ -24,8 +24,8 @@ use Rattle.promises.proofs.Frames.{closed, one-made}
 
 -- ---- a gate passes on
 -- the one in hand becomes holder of the open gate g, and is ready
-pass-kept : {m : Machine} (g h : ℕ) → h < nobody → g < m .made → (gate m g) .holder ≡ nobody → (proc m h) .holds ≤ 7 → (proc m h) .regs .«in_job» ≡ false
-    → Nearly m h g → Placed (pass m g h)
+pass-kept : {m : Machine} (g h : ℕ) → h < nobody → g < m .made → (gate m g) .holder ≡ nobody
+    → (proc m h) .holds ≤ 7 → (proc m h) .regs .«in_job» ≡ false → Nearly m h g → Placed (pass m g h)
 unfolding pass
 pass-kept g h b d e v free f = put-ready b (granted g h d (λ j i n y. n y) e v free (in-hand f b) f)
 
@@ -63,8 +63,8 @@ release-kept {m} g d e f =
     (gate-room g (first w) c b (omega arith) f) (gate-free g (first w) c b (omega arith) f) (take-queue g d l f)))
 
 -- ---- enter
-pub enter-kept : {m : Machine} (g : ℕ) → m .running < nobody → g < m .made → ((gate m g) .holder ≡ m .running → ⊥) → (proc m (m .running)) .holds ≤ 7
-    → (proc m (m .running)) .regs .«in_job» ≡ false → Placed m → Placed (enter m g)
+pub enter-kept : {m : Machine} (g : ℕ) → m .running < nobody → g < m .made → ((gate m g) .holder ≡ m .running → ⊥)
+    → (proc m (m .running)) .holds ≤ 7 → (proc m (m .running)) .regs .«in_job» ≡ false → Placed m → Placed (enter m g)
 unfolding enter setRunning
 enter-kept {m} g b d other v free f =
     let r : ℕ = m .running in
@@ -105,18 +105,17 @@ module _ {m : Machine} {g : ℕ} (mine : Mine m g) (f : Placed m) where
   unfolding setRunning
   hand-up = given-up g (m .running) (mine .made) holder (mine .some) (mine .last) (in-hand (take-running f) (mine .runs)) (take-running f)
 
+  up-proc : proc (giveUp (setRunning m nobody) g (m .running)) (m .running) ≡ given (proc m (m .running))
+  unfolding setRunning giveUp
+  up-proc = getD-set-same (m .processes) (m .running) _ noProcess (omega (arith, f .processes .ten, mine .runs))
+
   up-few : (proc (giveUp (setRunning m nobody) g (m .running)) (m .running)) .holds ≤ 7
-  unfolding setRunning giveUp given
-  up-few =
-      let l : m .running < length (m .processes) = omega (arith, f .processes .ten, mine .runs) in
-      let eight = f .processes .each (m .running) (f .runs .made (mine .runs)) .eight in
-      rw (getD-set-same (m .processes) (m .running) (given (proc m (m .running))) noProcess l) (omega arith)
+  unfolding given
+  up-few = rw up-proc (omega (arith, f .processes .each (m .running) (f .runs .made (mine .runs)) .eight))
 
   up-free : (proc m (m .running)) .regs .«in_job» ≡ false → (proc (giveUp (setRunning m nobody) g (m .running)) (m .running)) .regs .«in_job» ≡ false
-  unfolding setRunning giveUp given
-  up-free free =
-      let l : m .running < length (m .processes) = omega (arith, f .processes .ten, mine .runs) in
-      rw (getD-set-same (m .processes) (m .running) (given (proc m (m .running))) noProcess l) free
+  unfolding given
+  up-free free = rw up-proc free
 
   pub delay-kept : (c : ℕ) → c < 8 → nobody ≤ cell m g c → (proc m (m .running)) .regs .«in_job» ≡ false → Placed (delay m g c)
   unfolding delay setRunning giveUp sit
@@ -151,10 +150,11 @@ module _ {m : Machine} {g : ℕ} (mine : Mine m g) (f : Placed m) where
       (gate-room g y gate-small o there gives-up) (gate-free g y gate-small o there gives-up) f₁))
 
 -- ---- new gate
-pub make-kept : {m : Machine} → m .running < nobody → m .made < 25 → (proc m (m .running)) .holds ≤ 7 → (proc m (m .running)) .regs .«in_job» ≡ false
-    → Placed m → Placed (makeGate m)
+pub make-kept : {m : Machine} → m .running < nobody → m .made < 25
+    → (proc m (m .running)) .holds ≤ 7 → (proc m (m .running)) .regs .«in_job» ≡ false → Placed m → Placed (makeGate m)
 unfolding makeGate
 make-kept {m} b d v free f =
     let f₁ = one-made d f in
+    let u = f .gates .unused (m .made) d (omega arith) in
     rw (lt-ltb (m .made) 25 d)
-    (granted (m .made) (m .running) (omega arith) (λ j i n y. omega arith) (f .gates .unused (m .made) d (omega arith) .holder) v free (in-run f₁ b) f₁)
+    (granted (m .made) (m .running) (omega arith) (λ j i n y. omega arith) (u .holder) v free (in-run f₁ b) f₁)

@@ -25,7 +25,7 @@ use Rattle.promises.proofs.SmallFaults.{Small, a-word, a-fault, fitted-
 use Rattle.promises.proofs.Runs.{part, at-most, in-job, job-starts, job-high}
 
 -- ---- what an instruction keeps: the marks where the process goes on, the common store, its own part
--- who starts a job holds no gate; who calls the kernel is in no job, and its address may pass the call; a fault is 1 to 9
+-- who starts a job holds no gate; who calls the kernel is in no job, and its address may pass the call; a fault is at most 9
 pub record Goes (v : View) (r : Regs) : Type 0 where
   pub ordered : Ordered (v .floor) (n v) r
   pub starts : r .«in_job» ≡ true → v .regs .«in_job» ≡ false → v .holding ≡ false
@@ -126,8 +126,8 @@ module _ (v : View) (fit : Fit v) where
   abbrev Stands : Regs → Type 0
   Stands r = (v .floor ≤ r .s) × (r .s ≤ r .b) × (r .b ≤ r .c) × (r .address ≤ n v)
 
-  next-kept : {r : Regs} {c q : List ℕ} → jobOk (n v) r ≡ true → (r .«in_job» ≡ true → v .regs .«in_job» ≡ false → v .holding ≡ false) → Stands r → Common v c → Own v q
-      → Kept v (effect (next r) c q)
+  next-kept : {r : Regs} {c q : List ℕ} → jobOk (n v) r ≡ true → (r .«in_job» ≡ true → v .regs .«in_job» ≡ false → v .holding ≡ false)
+      → Stands r → Common v c → Own v q → Kept v (effect (next r) c q)
   next-kept j starts h c o =
       record {
         marks =

@@ -15,14 +15,14 @@ use Rattle.machine.specs.declared.Gate.{Gate}
 use Rattle.machine.specs.declared.Process.{Process}
 use Rattle.machine.specs.declared.Device.{Device}
 use Rattle.machine.specs.declared.Machine.{Machine}
-use Rattle.machine.specs.State.{nobody, noQueue, noGate, noDevice, proc, gate, ready, device, with, withWaits, withProcess, changed}
+use Rattle.machine.specs.State.{nobody, noQueue, noGate, noDevice, proc, gate, ready, device, with, withWaits, withProcess}
 use Rattle.machine.specs.Queue.{first, pushed, rest}
 use Rattle.machine.specs.Classes.{setRunning, push, pull, wake}
 use Rattle.machine.specs.Gate.{latest, entered, given, join, advance, sit, grant, giveUp}
 use Rattle.machine.specs.Device.{withDevice}
 use Rattle.machine.specs.Sound.{sits, inQueue, inCells, atGate, isReady, places, heldOf, isAtGates}
 use Rattle.promises.proofs.Counts.{at-set, all-set, Lined, lined-as, pushed-lined, rest-lined, in-pushed, in-rest, has-room, held-holding, held-dropping, sits-self, sits-other, sum-get, sum-set}
-use Rattle.promises.proofs.Steady.{Steady, steady-holding, steady-dropping, steady-ended}
+use Rattle.promises.proofs.Steady.{Steady, ended, steady-holding, steady-dropping, steady-ended}
 use Rattle.promises.proofs.Nearly.{Known, Tended, Unused, Gates, InClass, works, waits, Nearly, known-nobody, known-one, nobody-sits, Alone, in-hand, in-ready, at-gate, no-gate, Free, not-free}
 use Rattle.promises.proofs.Frames.{seated, queued, rebuilt}
 
@@ -48,7 +48,7 @@ put-running {m} {h} e f =
     (λ q l. rw r (omega arith)) (λ q l j. omega arith)
 
 -- class c has another queue
-pub reclassed : {m : Machine} {x : ℕ} (h k c : ℕ) (w : Queue) → Nearly m h x → c < 3
+reclassed : {m : Machine} {x : ℕ} (h k c : ℕ) (w : Queue) → Nearly m h x → c < 3
     → Lined (InClass (m .created) (m .processes) c) w
     → Known (m .created) k
     → ((q : ℕ) → q < m .created → inQueue q w + sits q k ≡ inQueue q (ready m c) + sits q h)
@@ -149,7 +149,9 @@ put-device {m} {h} d operation address b free ok f =
     let ds : List Device = m .devices in
     let v : Device = seat h operation address in
     let five = f .devices .five in
-    let sum : (q : ℕ) → sumTo (λ j. sits q ((getD (set ds d v) j noDevice) .process)) 5 + sits q ((device m d) .process) ≡ sumTo (λ j. sits q ((device m j) .process)) 5 + sits q h =
+    let sum : (q : ℕ)
+    → sumTo (λ j. sits q ((getD (set ds d v) j noDevice) .process)) 5 + sits q ((device m d) .process)
+    ≡ sumTo (λ j. sits q ((device m j) .process)) 5 + sits q h =
     λ q. sum-set (λ (z : Device). sits q (z .process)) ds noDevice 5 d v b (omega arith) in
     seated ((device m d) .process) f (f .classes) (f .clock) (f .bell)
     (record {
@@ -239,14 +241,15 @@ put-cell {m} {h} g a b d v free n f =
 
 -- ---- the holder of a gate
 -- the gate g with holder b
-abbrev pub heldBy : Machine → ℕ → ℕ → Gate
+abbrev heldBy : Machine → ℕ → ℕ → Gate
 heldBy m g b = record { holder = b; queue = (gate m g) .queue; cells = (gate m g) .cells }
 
-same-waiters : (m : Machine) (g b : ℕ) → g < length (m .gates) → (q j : ℕ) → atGate q (getD (set (m .gates) g (heldBy m g b)) j noGate) ≡ atGate q (gate m j)
+same-waiters : (m : Machine) (g b : ℕ) → g < length (m .gates) → (q j : ℕ)
+    → atGate q (getD (set (m .gates) g (heldBy m g b)) j noGate) ≡ atGate q (gate m j)
 unfolding atGate inCells
 same-waiters m g b l q j =
-    at-set (λ z. inQueue q (z .queue) + sumTo (λ c. sits q (getD (z .cells) c 0)) 8 ≡ atGate q (gate m j)) (m .gates) g (heldBy m g b) noGate j l
-    (λ e. rw e) (λ n. refl)
+    at-set (λ z. inQueue q (z .queue) + sumTo (λ c. sits q (getD (z .cells) c 0)) 8 ≡ atGate q (gate m j))
+    (m .gates) g (heldBy m g b) noGate j l (λ e. rw e) (λ n. refl)
 
 -- gate z may be open with waiters instead of x
 reheld : {m : Machine} {h x : ℕ} (z g b : ℕ) → g < m .made → Known (m .created) b → (b < nobody → atGate b (gate m g) ≡ 0)
@@ -317,7 +320,7 @@ granted {m} g h d away e v free o f =
     (steady-holding (f .processes .each h (o .made)) g eight v c (o .alive) free)
     (holding-ended p g)
     (reheld 25 g h d (known-one l (o .made)) (λ _. no-gate m g h c (o .waits)) (λ j i n z. away j i n) (λ t s. absurd (omega arith)) f)
-    (let i = held-holding p g g eight (omega arith) in let a = f .agree h g (o .made) c in let z = ten h (o .made) in omega (arith, sits-self g, sits-self h))
+    (omega (arith, held-holding p g g eight (omega arith), f .agree h g (o .made) c, ten h (o .made), sits-self g, sits-self h))
     (λ j i n. let a = held-holding p g j eight (omega arith) in let z = sits-other j g n in omega arith)
     (λ q i n. sits-other q h n ∙ sym (ten q i))
 
@@ -334,7 +337,7 @@ given-up {m} g h d e v a o f =
     (steady-dropping (f .processes .each h (o .made)))
     refl
     (reheld g g nobody d (known-nobody _) (λ t. absurd (omega arith)) (λ j i n t s. omega arith) (λ t s. absurd (t refl)) f)
-    (let i = drops g in let y = f .agree h g (o .made) c in let y′ = rw e at y in let n = nobody-sits h (o .made) f in omega (arith, sits-self g, sits-self h))
+    (omega (arith, drops g, rw e at (f .agree h g (o .made) c), nobody-sits h (o .made) f, sits-self g, sits-self h))
     (λ j i n. let y = drops j in let z = sits-other j g n in omega arith)
     (λ q i n. nobody-sits q i f ∙ sym (rw e (sits-other q h n)))
 
@@ -348,37 +351,43 @@ latest-held {m} g h b c v a f =
     (λ t. let z = sits-other h ((gate m g) .holder) (eqb-false h _ t) in absurd (omega (arith, sits-self g)))
 
 -- who waits or sits at a gate is in no job and has room for one gate more
-pub gate-free : {m : Machine} {h x : ℕ} (g q : ℕ) → g < 25 → q < m .created → 0 < atGate q (gate m g) → Nearly m h x → (proc m q) .regs .«in_job» ≡ false
+pub gate-free : {m : Machine} {h x : ℕ} (g q : ℕ) → g < 25 → q < m .created → 0 < atGate q (gate m g) → Nearly m h x
+    → (proc m q) .regs .«in_job» ≡ false
 gate-free {m} g q c l b f =
     split ((proc m q) .regs .«in_job»)
     (λ t. let z = no-gate m g q c (let y = f .jobs q l t in omega arith) in absurd (omega arith))
     (λ t. t)
 
-pub gate-room : {m : Machine} {h x : ℕ} (g q : ℕ) → g < 25 → q < m .created → 0 < atGate q (gate m g) → Nearly m h x → (proc m q) .holds ≤ 7
+pub gate-room : {m : Machine} {h x : ℕ} (g q : ℕ) → g < 25 → q < m .created → 0 < atGate q (gate m g) → Nearly m h x
+    → (proc m q) .holds ≤ 7
 unfolding isAtGates
 gate-room {m} g q c l b f = f .seven q l (let t = sum-get (λ j. atGate q (gate m j)) 25 g c in omega arith)
 
 -- ---- a process with the gates held and the end as before
-pub remade : {m : Machine} {h x : ℕ} (p : ℕ) (v : Process) → p < m .created → v .held ≡ (proc m p) .held → v .holds ≡ (proc m p) .holds → v .ended ≡ (proc m p) .ended
+pub remade : {m : Machine} {h x : ℕ} (p : ℕ) (v : Process) → p < m .created
+    → v .held ≡ (proc m p) .held
+    → v .holds ≡ (proc m p) .holds
+    → v .ended ≡ (proc m p) .ended
     → Steady (m .length) v
     → ((c : ℕ) → c < 3 → 0 < inQueue p (ready m c) → v .class ≡ (proc m p) .class)
     → (v .regs .«in_job» ≡ true → waits m p + bit ((proc m p) .ended) ≡ 0)
     → Nearly m h x → Nearly (withProcess m p v) h x
 unfolding withProcess heldOf
-remade {m} {h} {x} p v b held holds ended ok class job f =
-    rebuilt h x p v (m .gates) f b (rw held (f .processes .held p (omega (arith, f .numbers .few)))) ok (f .gates) (λ q j. refl) (f .hand) (rw ended) (λ q i n. refl)
-    class (rw ended job) (rw holds (f .seven p b)) (λ g i. rw (held, holds) (f .agree p g b i)) (λ q g i n y. refl)
+remade {m} {h} {x} p v b held holds end ok class job f =
+    let eight = f .processes .held p (omega (arith, f .numbers .few)) in
+    rebuilt h x p v (m .gates) f b (rw held eight) ok (f .gates) (λ q j. refl) (f .hand) (rw end) (λ q i n. refl)
+    class (rw end job) (rw holds (f .seven p b)) (λ g i. rw (held, holds) (f .agree p g b i)) (λ q g i n y. refl)
 
 -- the one in hand, who holds none and is in no job, has ended
 pub finished : {m : Machine} {h x : ℕ} → h < nobody → (proc m h) .holds ≡ 0 → Free m h → Nearly m h x
-    → Nearly (withProcess m h (changed (proc m h) ((proc m h) .regs) ((proc m h) .slice) ((proc m h) .class) ((proc m h) .holds) ((proc m h) .held) true)) nobody x
+    → Nearly (withProcess m h (ended (proc m h))) nobody x
 unfolding withProcess heldOf
 finished {m} {h} {x} b z free f =
     let p : Process = proc m h in
     let o = in-hand f b in
     let s = f .processes .each h (o .made) in
     let t = nobody-sits h (o .made) f in
-    rebuilt nobody x h (changed p (p .regs) (p .slice) (p .class) (p .holds) (p .held) true) (m .gates) f (o .made) (f .processes .held h b)
+    rebuilt nobody x h (ended p) (m .gates) f (o .made) (f .processes .held h b)
     (steady-ended s z)
     (f .gates) (λ q j. refl) (known-nobody _)
     (rw (o .alive) (omega (arith, sits-self h)))

@@ -5,7 +5,7 @@ use mathlib.Core.List.{List}
 use Prim.Native.Nat.{ℕ, _*_, _<_}
 use native.Mathlib.Omega.{arith}
 use lib.Dec.{leb, eqb}
-use lib.ListN.{length, length-take, length-drop}
+use lib.ListN.{length}
 use borrow.Author.Tests.{leb-false}
 use Rattle.notation.proofs.Upto.{split}
 use Rattle.machine.specs.State.{nobody, going}
@@ -18,7 +18,7 @@ use Rattle.machine.specs.Step.{view, selected, halted, called, resulted, step}
 use Rattle.machine.specs.Sound.{sound}
 use Rattle.machine.specs.Offer.{did, storesFit, offerStep}
 use Rattle.promises.specs.PrivateWords.{AgreeBut, DifferOnly, SameBut, PrivateWords}
-use Rattle.promises.proofs.Runs.{equal, running-order}
+use Rattle.promises.proofs.Runs.{equal, running-fit}
 use Rattle.promises.proofs.Marks.{stores-kept}
 use Rattle.promises.proofs.Agree.{agree-row, same-part}
 use Rattle.promises.proofs.SameCalled.{Sees, SameCalled, both-on, both-start, both-stop, over, same-kernel}
@@ -49,15 +49,12 @@ module _ (j : ℕ) (code : List ℕ) (w : World) (q : List ℕ) where
     seen : storesFit (w .common) (w .private) && eqb (length code) (w .machine .length) ≡ true → sound (w .machine) ≡ true → w .machine .running < 10
         → Sees j code w q
     seen fits ok few =
-        let n = equal (length code) (w .machine .length) fits (λ t. simp (t, and-false)) in
-        let common = equal (length (w .common)) 2048 fits (λ t. rw t) in
-        let private = equal (length (w .private)) 20480 fits (λ t. simp (t, and-false)) in
         record {
-          fit = record { ordered = rw n (running-order (w .machine) ok few); common = common; own = simp (length-take, length-drop, private) (omega arith) };
+          fit = running-fit code w fits ok few;
           agree = agree;
           other = other;
           few = few;
-          long = private;
+          long = equal (length (w .private)) 20480 fits (λ t. simp (t, and-false));
         }
 
     -- the instruction sees the same, so it does the same

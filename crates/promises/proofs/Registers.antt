@@ -22,7 +22,7 @@ use Rattle.promises.proofs.Nearly.{waits, Nearly, Placed, in-run}
 use Rattle.promises.proofs.Moves.{remade}
 
 -- a process in a job holds none, and runs or is ready
-pub reset : {m : Machine} {h x : ℕ} (q : ℕ) (r : Regs) → q < m .created
+reset : {m : Machine} {h x : ℕ} (q : ℕ) (r : Regs) → q < m .created
     → Ranged (m .length) ((proc m q) .variables) ((proc m q) .slice) r
     → jobOk (m .length) r ≡ true
     → (r .«in_job» ≡ true → ((proc m q) .holds ≡ 0) × (waits m q + bit ((proc m q) .ended) ≡ 0))
@@ -44,23 +44,34 @@ module _ {m : Machine} (runs : m .running < nobody) (f : Placed m) where
   steady = f .processes .each (m .running) made
 
   -- it runs, so that it may be in a job where it holds none
-  pub reset-running : (r : Regs) → Ranged (m .length) (p .variables) (p .slice) r → jobOk (m .length) r ≡ true → (r .«in_job» ≡ true → p .holds ≡ 0)
-      → Placed (withProcess m (m .running) (withRegs p r))
+  pub reset-running : (r : Regs) → Ranged (m .length) (p .variables) (p .slice) r → jobOk (m .length) r ≡ true
+      → (r .«in_job» ≡ true → p .holds ≡ 0) → Placed (withProcess m (m .running) (withRegs p r))
   reset-running r ranged job free =
       let o = in-run f runs in
       reset (m .running) r made ranged job (λ t. (free t, rw (o .alive) (omega (arith, o .waits)))) f
 
   -- the caller past its call, with S at s
+  abbrev goesPast : ℕ → Regs
+  goesPast s = marks (p .regs) (p .regs .address + 2) (p .regs .line) s (p .regs .b)
+
   pub passed-kept : (s : ℕ) → p .regs .address + 2 ≤ m .length → 2048 + p .variables ≤ s → s ≤ p .regs .b → Placed (passed m s)
   unfolding passed jobOk
   passed-kept s past low high =
       let r = steady .marks in
-      reset-running (marks (p .regs) (p .regs .address + 2) (p .regs .line) s (p .regs .b))
-      (record { variables = r .variables; stack = low; frame = high; ceiling = r .ceiling; address = past; short = r .short; tens = r .tens })
+      reset-running (goesPast s)
+      (record {
+        variables = r .variables;
+        stack = low;
+        frame = high;
+        ceiling = r .ceiling;
+        address = past;
+        short = r .short;
+        tens = r .tens;
+      })
       (steady .job) (steady .free)
 
   -- it is as before but for the address and S
-  pub passed-proc : (s : ℕ) → proc (passed m s) (m .running) ≡ withRegs p (marks (p .regs) (p .regs .address + 2) (p .regs .line) s (p .regs .b))
+  pub passed-proc : (s : ℕ) → proc (passed m s) (m .running) ≡ withRegs p (goesPast s)
   unfolding passed withProcess
   passed-proc s = getD-set-same (m .processes) (m .running) _ noProcess (omega (arith, f .processes .ten))
 
@@ -80,14 +91,28 @@ stops-of m q reason e =
     (λ t₂. split (ltb reason 16 || ltb 255 reason) (λ t. let u = rw (t₁, t₂, t) at e in absurd (omega arith))
     (λ t₃.
     let b = neither (ltb reason 16) (ltb 255 reason) t₃ in
-    record { made = leb-false (m .created) q t₁; job = not-false _ t₂; low = ltb-false reason 16 (b .0); high = ltb-false 255 reason (b .1) })))
+    record {
+      made = leb-false (m .created) q t₁;
+      job = not-false _ t₂;
+      low = ltb-false reason 16 (b .0);
+      high = ltb-false 255 reason (b .1);
+    })))
 
-stopping-ok : (n : ℕ) (r : Regs) (reason : ℕ) → jobOk n r ≡ true → r .«in_job» ≡ true → 16 ≤ reason → reason ≤ 255 → jobOk n (stopping r reason) ≡ true
+stopping-ok : (n : ℕ) (r : Regs) (reason : ℕ) → jobOk n r ≡ true → r .«in_job» ≡ true → 16 ≤ reason → reason ≤ 255
+    → jobOk n (stopping r reason) ≡ true
 unfolding jobOk
 stopping-ok n r reason e i low high =
     let h = in-job n r e i in
-    rw
-    (i, eq-eqb _ _ (h .start), le-leb _ _ (h .frame), le-leb _ _ (h .high), le-leb _ _ (h .region), le-leb _ _ (h .back), le-leb _ _ low, le-leb _ _ high)
+    rw (
+      i,
+      eq-eqb _ _ (h .start),
+      le-leb _ _ (h .frame),
+      le-leb _ _ (h .high),
+      le-leb _ _ (h .region),
+      le-leb _ _ (h .back),
+      le-leb _ _ low,
+      le-leb _ _ high,
+    )
     (or-true (eqb reason 0))
 
 pub stop-kept : {m : Machine} (q reason : ℕ) → Placed m → Placed (stopJob m q reason)
@@ -100,7 +125,15 @@ stop-kept {m} q reason f =
     let r = s .marks in
     rw t
     (reset q (stopping ((proc m q) .regs) reason) (a .made)
-    (record { variables = r .variables; stack = r .stack; frame = r .frame; ceiling = r .ceiling; address = r .address; short = r .short; tens = r .tens })
+    (record {
+      variables = r .variables;
+      stack = r .stack;
+      frame = r .frame;
+      ceiling = r .ceiling;
+      address = r .address;
+      short = r .short;
+      tens = r .tens;
+    })
     (stopping-ok (m .length) ((proc m q) .regs) reason (s .job) (a .job) (a .low) (a .high))
     (λ u. (s .free u, f .jobs q (a .made) u)) f))
     (λ t. rw t f)

@@ -1,9 +1,11 @@
 -- What a sound state tells of the process that runs: its marks are in order, and its job's registers in their ranges
 use mathlib.Core.Path.{_≡_, refl, sym, _∙_}
-use mathlib.Core.Bool.{Bool, true, false, _||_, and-false}
+use mathlib.Core.Bool.{Bool, true, false, _&&_, _||_, and-false}
+use mathlib.Core.List.{List}
 use Prim.Native.Nat.{ℕ, _+_, _<_, _≤_}
 use native.Mathlib.Omega.{arith}
 use lib.Dec.{leb, eqb}
+use lib.ListN.{length, length-take, length-drop}
 use borrow.Author.Tests.{ltb-true, leb-true, eqb-true, eq-eqb, ne-eqb, le-leb, lt-leb}
 use Rattle.notation.specs.Upto.{allTo}
 use Rattle.notation.proofs.Upto.{split, never, all-at}
@@ -11,8 +13,11 @@ use Rattle.machine.specs.declared.Regs.{Regs}
 use Rattle.machine.specs.declared.Process.{Process}
 use Rattle.machine.specs.declared.Machine.{Machine}
 use Rattle.machine.specs.State.{nobody, proc}
+use Rattle.machine.specs.Store.{World}
+use Rattle.machine.specs.Step.{view}
 use Rattle.machine.specs.Sound.{someone, jobOk, marksOk, processOk, numbersOk, sound}
-use Rattle.promises.specs.Marks.{Ordered}
+use Rattle.machine.specs.Offer.{storesFit}
+use Rattle.promises.specs.Marks.{Ordered, Fit}
 
 -- a test without which a whole that holds would fail; the second of two, of which the first fails
 pub part : {whole : Bool} (t : Bool) → whole ≡ true → (t ≡ false → whole ≡ false) → t ≡ true
@@ -97,3 +102,12 @@ running-order m e l =
     let ok = running-ok m e l in
     let marks = part (marksOk (m .length) p) ok (λ t. simp (t, and-false)) in
     order (m .length) p marks (part (jobOk (m .length) (p .regs)) ok (λ t. simp (t, and-false)))
+
+-- the instruction that it executes sees its marks in order, and stores of their lengths
+pub running-fit : (code : List ℕ) (w : World) → storesFit (w .common) (w .private) && eqb (length code) (w .machine .length) ≡ true
+    → sound (w .machine) ≡ true → w .machine .running < 10 → Fit (view code w)
+running-fit code w fits ok l =
+    let n = equal (length code) (w .machine .length) fits (λ t. simp (t, and-false)) in
+    let common = equal (length (w .common)) 2048 fits (λ t. rw t) in
+    let private = equal (length (w .private)) 20480 fits (λ t. simp (t, and-false)) in
+    record { ordered = rw n (running-order (w .machine) ok l); common = common; own = simp (length-take, length-drop, private) (omega arith) }

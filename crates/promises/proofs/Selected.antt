@@ -49,7 +49,8 @@ unfolding wake push
 wake-other m h c n = getD-set-other (m .ready) ((proc m h) .class) c _ noQueue n
 
 -- the running process goes to the tail of its class, so that a better one starts
-module _ {m : Machine} (c : ℕ) (d : c < 3) (b : m .running < nobody) (k : c < (proc m (m .running)) .class) (l : 0 < (ready m c) .len) (f : Placed m) where
+module _ {m : Machine} (c : ℕ) (d : c < 3) (b : m .running < nobody) (k : c < (proc m (m .running)) .class) (l : 0 < (ready m c) .len)
+    (f : Placed m) where
   aside : Placed (wake (setRunning m nobody) (m .running))
   aside = put-ready b (take-running f)
 

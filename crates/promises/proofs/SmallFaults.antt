@@ -1,4 +1,4 @@
--- What is reckoned is a word, or a fault of 1 to 9
+-- What is reckoned is a word, or a fault of at most 9
 use mathlib.Core.Bool.{Bool, true, false}
 use Prim.Native.Nat.{ℕ, _≤_}
 use native.Mathlib.Omega.{arith}
@@ -13,7 +13,7 @@ pub data Small : Reckoned → Type 0 where
   a-word : {x : ℕ} → Small (word x)
   a-fault : (f : ℕ) → f ≤ 9 → Small (fault f)
 
-pub if-small : (b : Bool) {r s : Reckoned} → Small r → Small s → Small (if b r s)
+if-small : (b : Bool) {r s : Reckoned} → Small r → Small s → Small (if b r s)
 if-small true x y = x
 if-small false x y = y
 
@@ -28,7 +28,9 @@ range-small i min max = if-small (within (signed min) (signed i) (signed max)) a
 pub index-small : (address i min max len : ℕ) → Small (indexW address i min max len)
 unfolding indexW
 index-small address i min max len =
-    if-small (within (signed min) (signed i) (signed max)) (if-small (within (pos 0) (indexed address i min len) (pos 4095)) a-word (a-fault 2 (omega arith))) (a-fault 3 (omega arith))
+    if-small (within (signed min) (signed i) (signed max))
+    (if-small (within (pos 0) (indexed address i min len) (pos 4095)) a-word (a-fault 2 (omega arith)))
+    (a-fault 3 (omega arith))
 
 pub case-small : (i min m : ℕ) → Small (caseW i min m)
 unfolding caseW

@@ -5,7 +5,7 @@ use mathlib.Core.List.{List, [], _∷_}
 use Prim.Native.Nat.{ℕ, _<_, _≤_}
 use native.Mathlib.Omega.{arith}
 use lib.Dec.{ltb, leb, eqb}
-use lib.ListN.{length, length-take, length-drop}
+use lib.ListN.{length}
 use borrow.Author.Tests.{leb-false, ltb-true, ltb-false, not-false}
 use Rattle.notation.proofs.Upto.{split, neither}
 use Rattle.machine.specs.declared.Process.{Process}
@@ -19,9 +19,8 @@ use Rattle.machine.specs.Device.{isBusy, deviceDone}
 use Rattle.machine.specs.Step.{view, halted, called, resulted, step}
 use Rattle.machine.specs.Sound.{sound}
 use Rattle.machine.specs.Offer.{storesFit, offerStep, offerTick, offerBell, offerDone, after, aStep, aTick, aDone, aBell, offer}
-use Rattle.promises.specs.Marks.{Fit}
 use Rattle.promises.specs.SoundKept.{Shaped, FreshSound, SoundKept, afterAll, SoundOverAll}
-use Rattle.promises.proofs.Runs.{equal, running-order}
+use Rattle.promises.proofs.Runs.{equal, running-fit}
 use Rattle.promises.proofs.Marks.{Marked, marked}
 use Rattle.promises.proofs.Nearly.{Sound}
 use Rattle.promises.proofs.Frames.{retimed}
@@ -45,7 +44,8 @@ called-sound w _ (goes f) s = select-sound f
 called-sound w _ (begins d f) s = select-sound f
 called-sound w _ (halts f l) s = halted-sound w f l s
 
-module _ (code : List ℕ) (w : World) (s : Sound (w .machine)) (runs : w .machine .running < nobody) (long : length code ≡ w .machine .length) where
+module _ (code : List ℕ) (w : World) (s : Sound (w .machine)) (runs : w .machine .running < nobody)
+    (long : length code ≡ w .machine .length) where
   abbrev p : Process
   p = proc (w .machine) (w .machine .running)
 
@@ -56,7 +56,15 @@ module _ (code : List ℕ) (w : World) (s : Sound (w .machine)) (runs : w .machi
       let o = g .ordered in
       select-sound
       (reset-running runs f r
-      (record { variables = old .marks .variables; stack = o .stack; frame = o .frame; ceiling = o .ceiling; address = rw (← long) (o .address); short = old .marks .short; tens = old .marks .tens })
+      (record {
+        variables = old .marks .variables;
+        stack = o .stack;
+        frame = o .frame;
+        ceiling = o .ceiling;
+        address = rw (← long) (o .address);
+        short = old .marks .short;
+        tens = old .marks .tens;
+      })
       (rw (← long) (o .job))
       (λ j. split (p .regs .«in_job») (old .free) (λ n. let z = ltb-false 0 (p .holds) (g .starts j n) in omega arith)))
   resulted-sound (faults f) common own l = halted-sound w f l s
@@ -80,22 +88,17 @@ module _ (w : World) (same : Good (w .machine)) where
   is-sound : Sound m
   is-sound = tested m (same .0) (same .1)
 
-  sees : (code : List ℕ) → length code ≡ m .length → length (w .common) ≡ 2048 → length (w .private) ≡ 20480 → m .running < nobody → Fit (view code w)
-  sees code n common private runs =
-      record { ordered = rw n (running-order m (same .1) runs); common = common; own = simp (length-take, length-drop, private) (omega arith) }
-
   step-good : (code : List ℕ) → storesFit (w .common) (w .private) && eqb (length code) (m .length) ≡ true → Good ((step code w) .world .machine)
   unfolding step
   step-good code fits =
       let n = equal (length code) (m .length) fits (λ t. simp (t, and-false)) in
-      let common = equal (length (w .common)) 2048 fits (λ t. rw t) in
-      let private = equal (length (w .private)) 20480 fits (λ t. simp (t, and-false)) in
       let d : Effect = instruct (view code w) in
       split (leb nobody (m .running))
       (λ t. rw t same)
       (λ t.
       let runs = leb-false nobody (m .running) t in
-      rw t (good (resulted-sound code w is-sound runs n (d .out) (d .common) (d .own) (marked (view code w) (sees code n common private runs)))))
+      let kept = marked (view code w) (running-fit code w fits (same .1) runs) in
+      rw t (good (resulted-sound code w is-sound runs n (d .out) (d .common) (d .own) kept)))
 
   step-offered : (code : List ℕ) → Good ((after w (offerStep code w)) .machine)
   unfolding offerStep

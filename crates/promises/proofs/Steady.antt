@@ -39,6 +39,9 @@ pub record Steady (n : ℕ) (p : Process) : Type 0 where
   pub last : p .ended ≡ true → p .holds ≡ 0
   pub free : p .regs .«in_job» ≡ true → p .holds ≡ 0
 
+abbrev pub ended : Process → Process
+ended p = changed p (p .regs) (p .slice) (p .class) (p .holds) (p .held) true
+
 module _ {n : ℕ} {p : Process} (s : Steady n p) where
   -- one gate more
   pub steady-holding : (g : ℕ) → length (p .held) ≡ 8 → p .holds ≤ 7 → g < 25 → p .ended ≡ false → p .regs .«in_job» ≡ false
@@ -117,7 +120,7 @@ module _ {n : ℕ} {p : Process} (s : Steady n p) where
       }
 
   -- its end
-  pub steady-ended : p .holds ≡ 0 → Steady n (changed p (p .regs) (p .slice) (p .class) (p .holds) (p .held) true)
+  pub steady-ended : p .holds ≡ 0 → Steady n (ended p)
   steady-ended z =
       record {
         marks = s .marks;

@@ -30,6 +30,10 @@ or-else : (a b : Bool) → (a ≡ false → b ≡ true) → a || b ≡ true
 or-else true b f = refl
 or-else false b f = f refl
 
+-- each of n tests, of a whole that would fail without them
+each-of : {whole : Bool} (ok : ℕ → Bool) (n : ℕ) → whole ≡ true → (allTo ok n ≡ false → whole ≡ false) → (k : ℕ) → k < n → ok k ≡ true
+each-of ok n e f k l = all-at ok n k (part (allTo ok n) e f) l
+
 -- ---- who is known
 known-of : {n x : ℕ} → n ≤ 10 → eqb x nobody || ltb x n ≡ true → Known n x
 known-of {n} {x} l e =
@@ -47,11 +51,11 @@ unfolding queueOk
 lined-of m w l e =
     let ok : ℕ → Bool = λ k. leb (w .len) k || ltb (getD (w .at) k 0) (m .created) in
     let few = at-most (w .len) 10 e (λ t. rw t) in
-    let all = part (allTo ok 10) e (λ t. simp (t, and-false)) in
+    let all = each-of ok 10 e (λ t. simp (t, and-false)) in
     record {
       full = l;
       few = few;
-      each = λ k b. ltb-true _ _ (second (leb (w .len) k) _ (all-at ok 10 k all (omega arith)) (lt-leb (w .len) k b));
+      each = λ k b. ltb-true _ _ (second (leb (w .len) k) _ (all k (omega arith)) (lt-leb (w .len) k b));
     }
 
 of-lined : (m : Machine) (w : Queue) → Lined (λ q. q < m .created) w → queueOk m w ≡ true
@@ -61,17 +65,18 @@ of-lined m w t =
     rw
     (le-leb (w .len) 10 (t .few), all-of ok 10 (λ k b. or-else (leb (w .len) k) _ (λ u. lt-ltb _ _ (t .each k (leb-false (w .len) k u)))))
 
-class-of : (m : Machine) (c : ℕ) → length ((ready m c) .at) ≡ 10 → classOk m c ≡ true → Lined (InClass (m .created) (m .processes) c) (ready m c)
+class-of : (m : Machine) (c : ℕ) → length ((ready m c) .at) ≡ 10 → classOk m c ≡ true
+    → Lined (InClass (m .created) (m .processes) c) (ready m c)
 unfolding classOk
 class-of m c l e =
     let w : Queue = ready m c in
     let ok : ℕ → Bool = λ k. leb (w .len) k || eqb ((proc m (getD (w .at) k 0)) .class) c in
     let t = lined-of m w l (part (queueOk m w) e (λ t. rw t)) in
-    let all = part (allTo ok 10) e (λ t. simp (t, and-false)) in
+    let all = each-of ok 10 e (λ t. simp (t, and-false)) in
     record {
       full = l;
       few = t .few;
-      each = λ k b. (t .each k b, eqb-true _ c (second (leb (w .len) k) _ (all-at ok 10 k all (omega (arith, t .few))) (lt-leb (w .len) k b)));
+      each = λ k b. (t .each k b, eqb-true _ c (second (leb (w .len) k) _ (all k (omega (arith, t .few))) (lt-leb (w .len) k b)));
     }
 
 of-class : (m : Machine) (c : ℕ) → Lined (InClass (m .created) (m .processes) c) (ready m c) → classOk m c ≡ true
@@ -79,8 +84,10 @@ unfolding classOk
 of-class m c t =
     let w : Queue = ready m c in
     let ok : ℕ → Bool = λ k. leb (w .len) k || eqb ((proc m (getD (w .at) k 0)) .class) c in
-    rw
-    (of-lined m w (lined-as t (λ q i y. y .0)), all-of ok 10 (λ k b. or-else (leb (w .len) k) _ (λ u. eq-eqb _ c (t .each k (leb-false (w .len) k u) .1))))
+    rw (
+      of-lined m w (lined-as t (λ q i y. y .0)),
+      all-of ok 10 (λ k b. or-else (leb (w .len) k) _ (λ u. eq-eqb _ c (t .each k (leb-false (w .len) k u) .1))),
+    )
 
 -- ---- gates
 record GateYes (m : Machine) (g : ℕ) : Type 0 where
@@ -88,13 +95,14 @@ record GateYes (m : Machine) (g : ℕ) : Type 0 where
   shut : (gate m g) .holder ≡ nobody → (gate m g) .queue .len ≡ 0
   unused : m .made ≤ g → Unused (gate m g)
 
-gate-of : (m : Machine) (g : ℕ) → m .created ≤ 10 → length ((gate m g) .queue .at) ≡ 10 → length ((gate m g) .cells) ≡ 8 → gateOk m g ≡ true → GateYes m g
+gate-of : (m : Machine) (g : ℕ) → m .created ≤ 10 → length ((gate m g) .queue .at) ≡ 10 → length ((gate m g) .cells) ≡ 8
+    → gateOk m g ≡ true → GateYes m g
 unfolding gateOk
 gate-of m g few l₁ l₂ e =
     let w : Gate = gate m g in
     let empty : ℕ → Bool = λ c. eqb (getD (w .cells) c 0) nobody in
     let holder = known-of few (part (someone m (w .holder)) e (λ t. rw t)) in
-    let cells = part (allTo (λ c. someone m (getD (w .cells) c 0)) 8) e (λ t. simp (t, and-false)) in
+    let cells = each-of (λ c. someone m (getD (w .cells) c 0)) 8 e (λ t. simp (t, and-false)) in
     let shut = part (not (eqb (w .holder) nobody) || eqb (w .queue .len) 0) e (λ t. simp (t, and-false)) in
     let apart = part (eqb (w .holder) nobody || eqb (atGate (w .holder) w) 0) e (λ t. simp (t, and-false)) in
     let made = part (ltb g (m .made) || (eqb (w .holder) nobody && eqb (w .queue .len) 0 && allTo empty 8)) e (λ t. simp (t, and-false)) in
@@ -103,7 +111,7 @@ gate-of m g few l₁ l₂ e =
           record {
             queue = lined-of m (w .queue) l₁ (part (queueOk m (w .queue)) e (λ t. simp (t, and-false)));
             room = l₂;
-            cells = λ c b. known-of few (all-at (λ c. someone m (getD (w .cells) c 0)) 8 c cells b);
+            cells = λ c b. known-of few (cells c b);
             holder = holder;
             apart = λ b. eqb-true _ 0 (second (eqb (w .holder) nobody) _ apart (ne-eqb (w .holder) nobody (λ t. omega arith)));
           };
@@ -113,7 +121,7 @@ gate-of m g few l₁ l₂ e =
           record {
             holder = equal (w .holder) nobody u (λ t. rw t);
             queue = equal (w .queue .len) 0 u (λ t. simp (t, and-false));
-            cells = λ c b. eqb-true _ nobody (all-at empty 8 c (part (allTo empty 8) u (λ t. simp (t, and-false))) b);
+            cells = λ c b. eqb-true _ nobody (each-of empty 8 u (λ t. simp (t, and-false)) c b);
           };
     }
 
@@ -123,7 +131,12 @@ of-gate m g y =
     let w : Gate = gate m g in
     let k = y .tended in
     let empty : ℕ → Bool = λ c. eqb (getD (w .cells) c 0) nobody in
-    let unused = or-else (ltb g (m .made)) (eqb (w .holder) nobody && eqb (w .queue .len) 0 && allTo empty 8)
+    let shut = or-else (not (eqb (w .holder) nobody)) (eqb (w .queue .len) 0) (λ t. eq-eqb _ 0 (y .shut (eqb-true _ nobody (not-false _ t)))) in
+    let apart =
+    or-else (eqb (w .holder) nobody) (eqb (atGate (w .holder) w) 0)
+    (λ t. let z = eqb-false (w .holder) nobody t in eq-eqb _ 0 (k .apart (omega (arith, z, k .holder .most)))) in
+    let unused =
+    or-else (ltb g (m .made)) (eqb (w .holder) nobody && eqb (w .queue .len) 0 && allTo empty 8)
     (λ t.
     let u = y .unused (ltb-false g (m .made) t) in
     rw (eq-eqb _ nobody (u .holder), eq-eqb _ 0 (u .queue), all-of empty 8 (λ c b. eq-eqb _ nobody (u .cells c b)))) in
@@ -131,8 +144,8 @@ of-gate m g y =
       of-known (k .holder),
       of-lined m (w .queue) (k .queue),
       all-of (λ c. someone m (getD (w .cells) c 0)) 8 (λ c b. of-known (k .cells c b)),
-      or-else (not (eqb (w .holder) nobody)) (eqb (w .queue .len) 0) (λ t. eq-eqb _ 0 (y .shut (eqb-true _ nobody (not-false _ t)))),
-      or-else (eqb (w .holder) nobody) (eqb (atGate (w .holder) w) 0) (λ t. eq-eqb _ 0 (k .apart (let z = eqb-false (w .holder) nobody t in omega (arith, z, k .holder .most)))),
+      shut,
+      apart,
       unused,
     )
 
@@ -153,8 +166,15 @@ ranged-of n p e =
 of-ranged : (n : ℕ) (p : Process) → Ranged n (p .variables) (p .slice) (p .regs) → marksOk n p ≡ true
 unfolding marksOk
 of-ranged n p r =
-    rw
-    (le-leb _ _ (r .variables), le-leb _ _ (r .stack), le-leb _ _ (r .frame), le-leb _ _ (r .ceiling), le-leb _ _ (r .address), le-leb _ _ (r .short), eq-eqb _ _ (r .tens))
+    rw (
+      le-leb _ _ (r .variables),
+      le-leb _ _ (r .stack),
+      le-leb _ _ (r .frame),
+      le-leb _ _ (r .ceiling),
+      le-leb _ _ (r .address),
+      le-leb _ _ (r .short),
+      eq-eqb _ _ (r .tens),
+    )
 
 -- what the test asks of process q
 record ProcessYes (m : Machine) (q : ℕ) : Type 0 where
@@ -199,7 +219,7 @@ module _ (m : Machine) (q : ℕ) where
   process-of : processOk m q ≡ true → ProcessYes m q
   unfolding processOk holdsOk
   process-of e =
-      let small = part (allTo within 8) e (λ t. simp (t, and-false)) in
+      let small = each-of within 8 e (λ t. simp (t, and-false)) in
       let class = part (classTest p) e (λ t. simp (t, and-false)) in
       let none = part (not (p .ended || p .regs .«in_job») || eqb (p .holds) 0) e (λ t. simp (t, and-false)) in
       let eight = at-most (p .holds) 8 e (λ t. simp (t, and-false)) in
@@ -210,7 +230,7 @@ module _ (m : Machine) (q : ℕ) where
               marks = ranged-of (m .length) p (part (marksOk (m .length) p) e (λ t. simp (t, and-false)));
               job = part (jobOk (m .length) (p .regs)) e (λ t. simp (t, and-false));
               eight = eight;
-              small = λ k l. ltb-true _ 25 (second (leb (p .holds) k) _ (all-at within 8 k small (omega arith)) (lt-leb (p .holds) k l));
+              small = λ k l. ltb-true _ 25 (second (leb (p .holds) k) _ (small k (omega arith)) (lt-leb (p .holds) k l));
               zero = class-zero p class;
               some = class-some p class;
               two = class-two p class;
@@ -223,7 +243,7 @@ module _ (m : Machine) (q : ℕ) where
         seven = λ l.
             let room = part (eqb (isAtGates m q) 0 || leb (p .holds) 7) e (λ t. simp (t, and-false)) in
             leb-true _ 7 (second (eqb (isAtGates m q) 0) _ room (ne-eqb (isAtGates m q) 0 (λ t. omega arith)));
-        agree = λ g l. eqb-true _ _ (all-at agrees 25 g (part (allTo agrees 25) e (λ t. simp (t, and-false))) l);
+        agree = λ g l. eqb-true _ _ (each-of agrees 25 e (λ t. simp (t, and-false)) g l);
       }
 
   of-process : ProcessYes m q → processOk m q ≡ true
@@ -234,7 +254,9 @@ module _ (m : Machine) (q : ℕ) where
       or-else (not (p .ended || p .regs .«in_job»)) (eqb (p .holds) 0)
       (λ t. let e = not-false _ t in eq-eqb _ 0 (split (p .ended) (s .last) (λ u. s .free (second (p .ended) _ e u)))) in
       let run = or-else (not (p .regs .«in_job»)) (eqb (sits q (m .running) + isReady m q) 1) (λ t. eq-eqb _ 1 (y .job (not-false _ t))) in
-      let room = or-else (eqb (isAtGates m q) 0) (leb (p .holds) 7) (λ t. let z = eqb-false (isAtGates m q) 0 t in le-leb _ 7 (y .seven (omega (arith, z)))) in
+      let room =
+      or-else (eqb (isAtGates m q) 0) (leb (p .holds) 7)
+      (λ t. let z = eqb-false (isAtGates m q) 0 t in le-leb _ 7 (y .seven (omega (arith, z)))) in
       rw (
         eq-eqb _ 1 (y .place),
         le-leb _ 8 (s .eight),
@@ -249,21 +271,26 @@ module _ (m : Machine) (q : ℕ) where
       )
 
 -- ---- devices
-device-of : (m : Machine) (d : ℕ) → m .created ≤ 10 → deviceOk m d ≡ true
-    → Known (m .created) ((device m d) .process) × ((device m d) .process < nobody → works (m .present) d (device m d) ≡ true)
+record DeviceYes (m : Machine) (d : ℕ) : Type 0 where
+  known : Known (m .created) ((device m d) .process)
+  busy : (device m d) .process < nobody → works (m .present) d (device m d) ≡ true
+
+device-of : (m : Machine) (d : ℕ) → m .created ≤ 10 → deviceOk m d ≡ true → DeviceYes m d
 unfolding deviceOk
 device-of m d few e =
     let x : Device = device m d in
     let busy = part (not (isBusy m d) || works (m .present) d x) e (λ t. simp (t, and-false)) in
-    (known-of few (part (someone m (x .process)) e (λ t. rw t)), λ b. second (not (isBusy m d)) _ busy (rw (lt-ltb (x .process) nobody b)))
+    record {
+      known = known-of few (part (someone m (x .process)) e (λ t. rw t));
+      busy = λ b. second (not (isBusy m d)) _ busy (rw (lt-ltb (x .process) nobody b));
+    }
 
-of-device : (m : Machine) (d : ℕ) → Known (m .created) ((device m d) .process)
-    → ((device m d) .process < nobody → works (m .present) d (device m d) ≡ true) → deviceOk m d ≡ true
+of-device : (m : Machine) (d : ℕ) → DeviceYes m d → deviceOk m d ≡ true
 unfolding deviceOk
-of-device m d k ok =
+of-device m d y =
     let x : Device = device m d in
     rw
-    (of-known k, or-else (not (isBusy m d)) (works (m .present) d x) (λ t. ok (ltb-true _ nobody (not-false _ t))))
+    (of-known (y .known), or-else (not (isBusy m d)) (works (m .present) d x) (λ t. y .busy (ltb-true _ nobody (not-false _ t))))
 
 -- ---- the numbers, and who runs
 record NumbersYes (m : Machine) : Type 0 where
@@ -307,10 +334,24 @@ module _ (m : Machine) where
   unfolding numbersOk
   of-numbers y =
       let n = y .numbers in
-      let stop = or-else (eqb (m .stop) going) (leb (m .stop) 9) (λ t. let z = eqb-false (m .stop) going t in le-leb (m .stop) 9 (omega (arith, z, n .stop))) in
-      let idle = or-else (ltb (m .running) nobody) (allTo empty 3) (λ t. all-of empty 3 (λ c l. eq-eqb _ 0 (y .idle (ltb-false (m .running) nobody t) c l))) in
-      rw
-      (le-leb 1 _ (n .some), le-leb _ 10 (n .few), le-leb _ 25 (n .fewGates), n .header, le-leb _ 9990 (n .fraction), eq-eqb _ 0 (n .tens), le-leb _ 32767 (n .seconds), stop, of-known (y .runs), idle)
+      let stop =
+      or-else (eqb (m .stop) going) (leb (m .stop) 9)
+      (λ t. let z = eqb-false (m .stop) going t in le-leb (m .stop) 9 (omega (arith, z, n .stop))) in
+      let idle =
+      or-else (ltb (m .running) nobody) (allTo empty 3)
+      (λ t. all-of empty 3 (λ c l. eq-eqb _ 0 (y .idle (ltb-false (m .running) nobody t) c l))) in
+      rw (
+        le-leb 1 _ (n .some),
+        le-leb _ 10 (n .few),
+        le-leb _ 25 (n .fewGates),
+        n .header,
+        le-leb _ 9990 (n .fraction),
+        eq-eqb _ 0 (n .tens),
+        le-leb _ 32767 (n .seconds),
+        stop,
+        of-known (y .runs),
+        idle,
+      )
 
   -- ---- the whole
   abbrev created : ℕ → Bool
@@ -320,30 +361,37 @@ module _ (m : Machine) where
   unfolding sound places isReady waits isAtGates
   tested sh e =
       let n = numbers-of (part (numbersOk m) e (λ t. rw t)) in
+      let few = n .numbers .few in
       let gates : (g : ℕ) → g < 25 → GateYes m g =
-      λ g b. gate-of m g (n .numbers .few) (sh .queues g b) (sh .cells g b) (all-at (gateOk m) 25 g (part (allTo (gateOk m) 25) e (λ t. simp (t, and-false))) b) in
+      λ g b. gate-of m g few (sh .queues g b) (sh .cells g b) (each-of (gateOk m) 25 e (λ t. simp (t, and-false)) g b) in
       let processes : (q : ℕ) → q < m .created → ProcessYes m q =
-      λ q b. process-of m q (second (leb (m .created) q) _ (all-at created 10 q (part (allTo created 10) e (λ t. simp (t, and-false))) (omega (arith, n .numbers .few))) (lt-leb (m .created) q b)) in
-      let devices : (d : ℕ) → d < 5 → Known (m .created) ((device m d) .process) × ((device m d) .process < nobody → works (m .present) d (device m d) ≡ true) =
-      λ d b. device-of m d (n .numbers .few) (all-at (deviceOk m) 5 d (part (allTo (deviceOk m) 5) e (λ t. simp (t, and-false))) b) in
+      λ q b.
+      let t = each-of created 10 e (λ t. simp (t, and-false)) q (omega arith) in
+      process-of m q (second (leb (m .created) q) _ t (lt-leb (m .created) q b)) in
+      let devices : (d : ℕ) → d < 5 → DeviceYes m d = λ d b. device-of m d few (each-of (deviceOk m) 5 e (λ t. simp (t, and-false)) d b) in
       record {
         placed =
             record {
               numbers = n .numbers;
               processes = record { ten = sh .processes; held = sh .held; each = λ q b. processes q b .steady };
               gates =
-                  record { many = sh .gates; each = λ g b. gates g b .tended; shut = λ g b t. gates g b .shut; unused = λ g b. gates g b .unused };
+                  record {
+                    many = sh .gates;
+                    each = λ g b. gates g b .tended;
+                    shut = λ g b t. gates g b .shut;
+                    unused = λ g b. gates g b .unused;
+                  };
               classes =
                   record {
                     three = sh .classes;
-                    each = λ c b. class-of m c (sh .ready c b) (all-at (classOk m) 3 c (part (allTo (classOk m) 3) e (λ t. simp (t, and-false))) b);
+                    each = λ c b. class-of m c (sh .ready c b) (each-of (classOk m) 3 e (λ t. simp (t, and-false)) c b);
                   };
               clock = lined-of m (m .clock) (sh .clock) (part (queueOk m (m .clock)) e (λ t. simp (t, and-false)));
               bell = lined-of m (m .bell) (sh .bell) (part (queueOk m (m .bell)) e (λ t. simp (t, and-false)));
-              devices = record { five = sh .devices; known = λ d b. devices d b .0; busy = λ d b. devices d b .1 };
+              devices = record { five = sh .devices; known = λ d b. devices d b .known; busy = λ d b. devices d b .busy };
               runs = n .runs;
               hand = known-nobody (m .created);
-              each = λ q b. let p = processes q b .place in omega (arith, sits-other q nobody (λ e. omega (arith, n .numbers .few)));
+              each = λ q b. let p = processes q b .place in omega (arith, sits-other q nobody (λ e. omega arith));
               jobs = λ q b t. let p = processes q b .place in let j = processes q b .job t in omega arith;
               seven = λ q b. processes q b .seven;
               agree = λ q g b. processes q b .agree g;
@@ -371,7 +419,7 @@ module _ (m : Machine) where
         all-of (classOk m) 3 (λ c b. of-class m c (f .classes .each c b)),
         of-lined m (m .clock) (f .clock),
         of-lined m (m .bell) (f .bell),
-        all-of (deviceOk m) 5 (λ d b. of-device m d (f .devices .known d b) (f .devices .busy d b)),
+        all-of (deviceOk m) 5 (λ d b. of-device m d (record { known = f .devices .known d b; busy = f .devices .busy d b })),
         all-of (gateOk m) 25 (λ g b. of-gate m g (record { tended = f .gates .each g b; shut = f .gates .shut g b (λ t. omega arith); unused = f .gates .unused g b })),
         all-of created 10 (λ q b. or-else (leb (m .created) q) _ (λ t. of-process m q (one q (leb-false (m .created) q t)))),
       )

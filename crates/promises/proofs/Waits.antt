@@ -8,6 +8,7 @@ use borrow.Author.Tests.{eq-eqb, ne-eqb, leb-false, ltb-true}
 use Rattle.notation.specs.If.{if}
 use Rattle.notation.proofs.Upto.{split}
 use Rattle.machine.specs.declared.Process.{Process}
+use Rattle.machine.specs.declared.Device.{Device}
 use Rattle.machine.specs.declared.Machine.{Machine}
 use Rattle.machine.specs.State.{nobody, proc, ready, device, withProcess}
 use Rattle.machine.specs.Queue.{first, rest}
@@ -32,8 +33,8 @@ module _ {m : Machine} (runs : m .running < nobody) (free : (proc m (m .running)
   unfolding bellWait setRunning
   bell-wait-kept = put-line false runs (λ _. free) (take-running f)
 
-  pub device-start-kept : (d operation address : ℕ) → d < 5 → nobody ≤ (device m d) .process → works (m .present) d (seat (m .running) operation address) ≡ true
-      → Placed (deviceStart m d operation address)
+  pub device-start-kept : (d operation address : ℕ) → d < 5 → nobody ≤ (device m d) .process
+      → works (m .present) d (seat (m .running) operation address) ≡ true → Placed (deviceStart m d operation address)
   unfolding deviceStart setRunning
   device-start-kept d operation address b n ok = empty-hand n (put-device d operation address b (λ _. free) (λ _. ok) (take-running f))
 
@@ -42,31 +43,32 @@ module _ {m : Machine} (runs : m .running < nobody) (free : (proc m (m .running)
   unfolding finish setRunning
   finish-kept z = finished runs z (λ _. free) (take-running f)
 
--- ---- the waiters of the clock, or of the bell, wake
-one-woken : {m : Machine} (b : Bool) → 0 < (line b m) .len → Placed m → Placed (wake (withLine b m (rest (line b m))) (first (line b m)))
-one-woken b l f = let c = lined b f .each 0 l in put-ready (omega (arith, f .numbers .few)) (take-line b l f)
+-- ---- the waiters of the clock (true), or of the bell (false), wake in order
+abbrev wakesFirst : Bool → Machine → Machine
+wakesFirst b m = wake (withLine b m (rest (line b m))) (first (line b m))
 
-clock-less : (m : Machine) → (clockOne m) .clock .len ≡ m .clock .len - 1
-unfolding clockOne wake push rest
-clock-less m = refl
+first-woken : {m : Machine} (b : Bool) → 0 < (line b m) .len → Placed m → Placed (wakesFirst b m)
+first-woken b l f = let c = lined b f .each 0 l in put-ready (omega (arith, f .numbers .few)) (take-line b l f)
 
-clock-wake-kept : {m : Machine} (n : ℕ) → n ≤ m .clock .len → Placed m → Placed (clockWake n m)
-unfolding clockWake clockOne
-clock-wake-kept zero l f = f
-clock-wake-kept {m} (suc n) l f = let e = clock-less m in clock-wake-kept n (omega arith) (one-woken true (omega arith) f)
+one-less : (b : Bool) (m : Machine) → (line b (wakesFirst b m)) .len ≡ (line b m) .len - 1
+unfolding wake push rest
+one-less true m = refl
+one-less false m = refl
 
-bell-less : (m : Machine) → (bellOne m) .bell .len ≡ m .bell .len - 1
-unfolding bellOne wake push rest
-bell-less m = refl
+abbrev wakes : Bool → ℕ → Machine → Machine
+wakes true n m = clockWake n m
+wakes false n m = bellWake n m
 
-bell-wake-kept : {m : Machine} (n : ℕ) → n ≤ m .bell .len → Placed m → Placed (bellWake n m)
-unfolding bellWake bellOne
-bell-wake-kept zero l f = f
-bell-wake-kept {m} (suc n) l f = let e = bell-less m in bell-wake-kept n (omega arith) (one-woken false (omega arith) f)
+all-woken : {m : Machine} (b : Bool) (n : ℕ) → n ≤ (line b m) .len → Placed m → Placed (wakes b n m)
+unfolding clockWake clockOne bellWake bellOne
+all-woken true zero l f = f
+all-woken false zero l f = f
+all-woken {m} true (suc n) l f = let e = one-less true m in all-woken true n (omega arith) (first-woken true (omega arith) f)
+all-woken {m} false (suc n) l f = let e = one-less false m in all-woken false n (omega arith) (first-woken false (omega arith) f)
 
 pub bell-sound : {m : Machine} → Placed m → Sound (bell m)
 unfolding bell
-bell-sound {m} f = select-sound (bell-wake-kept (m .bell .len) (omega arith) f)
+bell-sound {m} f = select-sound (all-woken false (m .bell .len) (omega arith) f)
 
 -- ---- another slice and class of one that is nowhere else
 resliced : {m : Machine} {h x : ℕ} (p slice class : ℕ) → Alone m p → Steady (m .length) (sliced (proc m p) slice class) → Nearly m h x
@@ -93,7 +95,8 @@ device-wakes {m} {h} b f =
 pub device-end-kept : {m : Machine} (d : ℕ) → d < 5 → (device m d) .process < nobody → Placed m → Placed (deviceEnd m d)
 unfolding deviceEnd withDevice
 device-end-kept {m} d b busy f =
-    device-wakes busy (put-device d ((device m d) .operation) ((device m d) .address) b (λ t. absurd (omega arith)) (λ t. absurd (omega arith)) f)
+    let x : Device = device m d in
+    device-wakes busy (put-device d (x .operation) (x .address) b (λ t. absurd (omega arith)) (λ t. absurd (omega arith)) f)
 
 -- ---- a tick
 next-second : (s : ℕ) → nextSecond s ≤ 32767
@@ -105,7 +108,9 @@ time-kept {m} f =
     let n = f .numbers in
     let k : ℕ = m .fraction + 10 in
     split (leb 10000 k)
-    (λ t. rw t (clock-wake-kept (m .clock .len) (omega arith) (retimed (m .stop) (m .line) (nextSecond (m .seconds)) 0 (omega arith) refl (next-second (m .seconds)) (n .stop) f)))
+    (λ t. rw t
+    (all-woken true (m .clock .len) (omega arith)
+    (retimed (m .stop) (m .line) (nextSecond (m .seconds)) 0 (omega arith) refl (next-second (m .seconds)) (n .stop) f)))
     (λ t.
     let l = leb-false 10000 k t in
     rw t (retimed (m .stop) (m .line) (m .seconds) k (omega (arith, n .tens)) (omega (arith, n .tens)) (n .seconds) (n .stop) f))
@@ -139,9 +144,12 @@ slice-kept {m} b f =
     (λ l. rw (ne-eqb (p .class) 1 (λ u. omega (arith, s .zero l))) (s .zero l))
     (λ e. split (eqb (p .class) 1) (λ u. rw u (omega arith)) (λ u. rw u (s .some e)))
     (split (eqb (p .class) 1) (λ u. rw u (omega arith)) (λ u. rw u (s .two)))) f)))
-    (λ t. rw t
+    (λ t.
+    let l = leb-false 200 (p .slice + 10) t in
+    let tens = s .marks .tens in
+    rw t
     (resliced r (p .slice + 10) (p .class) o
-    (steady-sliced s (p .slice + 10) (p .class) (omega (arith, leb-false 200 (p .slice + 10) t, s .marks .tens)) (omega (arith, s .marks .tens)) (s .zero) (s .some) (s .two)) f))
+    (steady-sliced s (p .slice + 10) (p .class) (omega arith) (omega arith) (s .zero) (s .some) (s .two)) f))
 
 pub tick-sound : {m : Machine} → Placed m → Sound (tick m)
 unfolding tick
@@ -158,7 +166,8 @@ child-kept : {m : Machine} (h : ℕ) → h < nobody → nobody ≤ m .running �
 unfolding placeChild
 child-kept {m} h b n f = split (someReady m 0 || someReady m 1) (λ t. rw t (put-ready b f)) (λ t. rw t (put-running n f))
 
-pub create-kept : {m : Machine} (address v : ℕ) → m .running < nobody → m .created < nobody → address ≤ m .length → v ≤ 1024 → Placed m → Placed (createProcess m address v)
+pub create-kept : {m : Machine} (address v : ℕ) → m .running < nobody → m .created < nobody → address ≤ m .length → v ≤ 1024
+    → Placed m → Placed (createProcess m address v)
 unfolding createProcess setRunning wake push born
 create-kept {m} address v b c code small f =
     child-kept (m .created) c (omega arith) (one-born address v c code small (put-ready b (take-running f)))

@@ -5,10 +5,10 @@ use Rattle.engine_vectors.proofs.main.Statement.{statement}
 use Rattle.engine_vectors.proofs.main.Tie as tie
 
 abbrev Inv-loop : tie.InvT-loop
-Inv-loop case₀ case = case ≤ 237
+Inv-loop case₀ case = case ≤ 238
 
 abbrev μ-loop : tie.MeasureT-loop
-μ-loop case₀ case = 237 - case
+μ-loop case₀ case = 238 - case
 
 loop-holds : tie.Need-loop-holds Inv-loop μ-loop
 loop-holds c = search needs
