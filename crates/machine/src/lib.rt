@@ -1,4 +1,11 @@
 // The machine's state, its limits and the fresh machine. What it does is defined in specs/.
+mod classes;
+mod clock;
+mod devices;
+mod gates;
+mod processes;
+mod queues;
+
 use image::Header;
 ghost use mathlib.Core.Path.{_≡_};
 ghost use Rattle.machine.specs.State.{started, fresh};

@@ -1,0 +1,15 @@
+use borrow.Author.Needs.{needs}
+use Rattle.machine.specs.Gate.{mayContinue}
+use Rattle.machine.proofs.Machine.may_continue.Statement.{statement}
+use Rattle.machine.proofs.Machine.may_continue.Tie as tie
+
+may-leave-requires : tie.Need-may-leave-requires
+may-leave-requires c κs = search needs
+
+returns : tie.Need-returns
+unfolding mayContinue
+returns c =
+    rw (c .may-leave .ensures)
+
+pub may-continue-spec : {M : Type 1} → statement M
+may-continue-spec = tie.close (tie.spec may-leave-requires returns)

@@ -1,0 +1,132 @@
+// Processes: a new one, the end of one, a stop for a job.
+ghost use mathlib.Core.Path.{_≡_};
+ghost use mathlib.Core.Bool.{true, _||_, not};
+ghost use Prim.Native.Nat.{_<_};
+ghost use lib.Dec.{eqb, ltb};
+ghost use Rattle.notation.specs.If.{if};
+ghost use Rattle.machine.specs.State.{proc, withProcess, withRegs};
+ghost use Rattle.machine.specs.Call.{born, placeChild, createProcess, finish, stopAnswer, stopping, stopJob};
+use crate::Machine;
+use crate::Process;
+use crate::Regs;
+use crate::gates::one_more;
+use crate::gates::wide;
+
+impl Machine {
+    pub(crate) fn with_process(mut self, i: u8, p: Process) -> Machine
+        ensures { λ r. ⌜ r ≡ withProcess self i p ⌝ }
+    {
+        if i < 10 {
+            self.processes[i as usize] = p;
+        }
+        self
+    }
+
+    // ---- call 3
+    // The child's record, as process 0 started.
+    fn born(mut self, t: u16, v: u16) -> Machine
+        ensures { λ r. ⌜ r ≡ born self t v ⌝ }
+    {
+        let child = self.created;
+        self.created = one_more(child, 10);
+        self.with_process(child, Process::started(t, v))
+    }
+
+    // The child runs if classes 0 and 1 are empty, else it joins class 2.
+    fn place_child(self, child: u8) -> Machine
+        ensures { λ r. ⌜ r ≡ placeChild self child ⌝ }
+    {
+        let first = self.ready[0];
+        let second = self.ready[1];
+        let waits = (0 < first.len) | (0 < second.len);
+        if waits {
+            self.wake(child)
+        } else {
+            self.set_running(child)
+        }
+    }
+
+    // The parent goes to the tail of its class, then the child is placed.
+    pub fn create_process(self, t: u16, v: u16) -> Machine
+        ensures { λ r. ⌜ r ≡ createProcess self t v ⌝ }
+    {
+        let parent = self.running;
+        let child = self.created;
+        self.set_running(10)
+            .wake(parent)
+            .born(t, v)
+            .place_child(child)
+    }
+
+    // ---- call 4
+    pub fn finish(self) -> Machine
+        ensures { λ r. ⌜ r ≡ finish self ⌝ }
+    {
+        let i = self.running;
+        self.set_running(10).set_ended(i)
+    }
+
+    fn set_ended(mut self, h: u8) -> Machine
+        ensures { λ r. ⌜ r ≡ withProcess self h (record { regs = (proc self h) .regs; variables = (proc self h) .variables; slice = (proc self h) .slice; class = (proc self h) .class; holds = (proc self h) .holds; held = (proc self h) .held; ended = true }) ⌝ }
+    {
+        if h < 10 {
+            let mut p = self.processes[h as usize];
+            p.ended = true;
+            self.processes[h as usize] = p;
+        }
+        self
+    }
+
+    // ---- call 5
+    // 0, or why the job cannot be stopped.
+    pub fn stop_answer(self, q: u16, reason: u16) -> u16
+        ensures { λ r. ⌜ r ≡ stopAnswer self q reason ⌝ }
+    {
+        if wide(self.created) <= q {
+            return 1;
+        }
+        if 10 <= q {
+            return 2;
+        }
+        let p = self.processes[q as usize];
+        answer_of(p.regs, reason)
+    }
+
+    pub fn stop_job(self, q: u16, reason: u16) -> Machine
+        ensures { λ r. ⌜ r ≡ stopJob self q reason ⌝ }
+    {
+        let answer = self.stop_answer(q, reason);
+        if answer == 0 {
+            self.set_reason(q, reason)
+        } else {
+            self
+        }
+    }
+
+    fn set_reason(mut self, q: u16, reason: u16) -> Machine
+        ensures { λ r. ⌜ r ≡ withProcess self q (withRegs (proc self q) (stopping ((proc self q) .regs) reason)) ⌝ }
+    {
+        if q < 10 {
+            let mut p = self.processes[q as usize];
+            let mut regs = p.regs;
+            regs.reason = reason;
+            p.regs = regs;
+            self.processes[q as usize] = p;
+        }
+        self
+    }
+}
+
+// Of a process there is: 2 no job, 3 reason outside 16 to 255, 4 already stopped.
+fn answer_of(r: Regs, reason: u16) -> u16
+    ensures { λ x. ⌜ x ≡ if (not (r .«in_job»)) 2 (if (ltb reason 16 || ltb 255 reason) 3 (if (not (eqb (r .reason) 0)) 4 0)) ⌝ }
+{
+    if !r.in_job {
+        return 2;
+    }
+    let outside = (reason < 16) | (255 < reason);
+    if outside {
+        return 3;
+    }
+    if r.reason != 0 { 4 } else { 0 }
+}
