@@ -114,7 +114,7 @@ pushed-lined {w = w} {h = h} t p =
     }))
     (λ e. rw e t)
 
-shifted-at : (l : List ℕ) (k : ℕ) → k < 9 → getD (shifted l) k 0 ≡ getD l (suc k) 0
+pub shifted-at : (l : List ℕ) (k : ℕ) → k < 9 → getD (shifted l) k 0 ≡ getD l (suc k) 0
 shifted-at l zero h = refl
 shifted-at l (suc zero) h = refl
 shifted-at l (suc (suc zero)) h = refl

@@ -26,3 +26,11 @@ pub mod Registers
 pub mod Calls
 pub mod Fresh
 pub mod SoundKept
+pub mod Fixed
+pub mod Spares
+pub mod Stepping
+pub mod RunSteps
+pub mod JobFaults
+pub mod JobEnds
+pub mod StoppedJob
+pub mod Refusals

@@ -76,13 +76,13 @@ module _ {m : Machine} (runs : m .running < nobody) (f : Placed m) where
   passed-proc s = getD-set-same (m .processes) (m .running) _ noProcess (omega (arith, f .processes .ten))
 
 -- ---- a job is stopped
-record Stops (m : Machine) (q reason : ℕ) : Type 0 where
-  made : q < m .created
-  job : (proc m q) .regs .«in_job» ≡ true
-  low : 16 ≤ reason
-  high : reason ≤ 255
+pub record Stops (m : Machine) (q reason : ℕ) : Type 0 where
+  pub made : q < m .created
+  pub job : (proc m q) .regs .«in_job» ≡ true
+  pub low : 16 ≤ reason
+  pub high : reason ≤ 255
 
-stops-of : (m : Machine) (q reason : ℕ) → stopAnswer m q reason ≡ 0 → Stops m q reason
+pub stops-of : (m : Machine) (q reason : ℕ) → stopAnswer m q reason ≡ 0 → Stops m q reason
 unfolding stopAnswer
 stops-of m q reason e =
     let r : Regs = (proc m q) .regs in

@@ -44,7 +44,7 @@ best-none m =
     three (suc (suc zero)) a b c d = omega arith
     three (suc (suc (suc n))) a b c d = absurd (omega arith)
 
-wake-other : (m : Machine) (h c : ℕ) → (c ≡ (proc m h) .class → ⊥) → ready (wake m h) c ≡ ready m c
+pub wake-other : (m : Machine) (h c : ℕ) → (c ≡ (proc m h) .class → ⊥) → ready (wake m h) c ≡ ready m c
 unfolding wake push
 wake-other m h c n = getD-set-other (m .ready) ((proc m h) .class) c _ noQueue n
 

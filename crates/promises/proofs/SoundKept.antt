@@ -72,7 +72,7 @@ module _ (code : List ℕ) (w : World) (s : Sound (w .machine)) (runs : w .machi
       called-sound w _ (fine w (record { placed = s .placed; runs = runs; free = a .free; past = rw (← long) (a .past) }) k) s
 
 -- ---- what is offered: taken, it leaves a sound machine; refused, it leaves the machine as it was
-abbrev Good : Machine → Type 0
+abbrev pub Good : Machine → Type 0
 Good m = Shaped m × (sound m ≡ true)
 
 good : {m : Machine} → Sound m → Good m
@@ -88,7 +88,7 @@ module _ (w : World) (same : Good (w .machine)) where
   is-sound : Sound m
   is-sound = tested m (same .0) (same .1)
 
-  step-good : (code : List ℕ) → storesFit (w .common) (w .private) && eqb (length code) (m .length) ≡ true → Good ((step code w) .world .machine)
+  pub step-good : (code : List ℕ) → storesFit (w .common) (w .private) && eqb (length code) (m .length) ≡ true → Good ((step code w) .world .machine)
   unfolding step
   step-good code fits =
       let n = equal (length code) (m .length) fits (λ t. simp (t, and-false)) in

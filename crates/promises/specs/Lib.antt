@@ -6,3 +6,6 @@ pub mod Marks
 pub mod PrivateWords
 pub mod Faults
 pub mod SoundKept
+pub mod RunSteps
+pub mod StoppedJob
+pub mod Refusals

@@ -1,0 +1,13 @@
+pub mod Places
+pub mod Turns
+pub mod Gates
+pub mod Untouched
+pub mod Replies
+pub mod Offers
+pub mod Good
+pub mod Steps
+pub mod Waiting
+pub mod Selection
+pub mod Ready
+pub mod Running
+pub mod Sharp

@@ -1,0 +1,4 @@
+pub mod Count
+pub mod Selection
+pub mod Waiting
+pub mod Sharp

@@ -1,0 +1,130 @@
+-- "A process in place k of a shut gate's queue with d delayed there holds the gate at the k-th release, and no later than the
+-- (2k - 1 + d)-th completed leave, delay or continue; place j of class 0 runs at the j-th selection. From any sound state, over any steps"
+use mathlib.Core.Path.{_≡_}
+use mathlib.Core.Bool.{Bool, true, false, _&&_}
+use mathlib.Core.List.{List, _++_}
+use Prim.Native.Nat.{ℕ, _+_, _-_, _*_, _<_, _≤_}
+use lib.Dec.{ltb}
+use lib.ListN.{getD}
+use Rattle.notation.specs.Upto.{sumTo}
+use Rattle.word.specs.Word.{bit}
+use Rattle.machine.specs.declared.Queue.{Queue}
+use Rattle.machine.specs.State.{nobody, gate, ready}
+use Rattle.machine.specs.Store.{World}
+use Rattle.machine.specs.Gate.{cell}
+use Rattle.machine.specs.Release.{releases, completes}
+use Rattle.machine.specs.Sound.{sound}
+use Rattle.machine.specs.Offer.{Offer, aStep, aTick, aDone, aBell, offer, after}
+use Rattle.promises.specs.SoundKept.{Shaped, afterAll}
+use Rattle.waiting.specs.Count.{accepted, countIn}
+use Rattle.waiting.specs.Selection.{selectsAt}
+
+-- process i stands in place k of a queue, whose first place is 1
+pub record InPlace (q : Queue) (k i : ℕ) : Type 0 where
+  pub first : 1 ≤ k
+  pub last : k ≤ q .len
+  pub there : getD (q .at) (k - 1) 0 ≡ i
+
+-- who holds gate g; process i waits in place k of its queue (in a sound state an open gate has no waiter, so it is shut);
+-- how many are delayed in its 8 cells
+abbrev pub holder : World → ℕ → ℕ
+holder w g = (gate (w .machine) g) .holder
+
+abbrev pub Waits : World → ℕ → ℕ → ℕ → Type 0
+Waits w g k i = InPlace ((gate (w .machine) g) .queue) k i
+
+abbrev pub delayed : World → ℕ → ℕ
+delayed w g = sumTo (λ c. bit (ltb (cell (w .machine) g c) nobody)) 8
+
+-- an accepted step that is a release of gate g; one that completes a leave, delay or continue on it
+abbrev pub isStep : Offer → Bool
+isStep aStep = true
+isStep aTick = false
+isStep (aDone d status arg) = false
+isStep aBell = false
+
+abbrev pub releasesAt : List ℕ → ℕ → World → Offer → Bool
+releasesAt code g w x = accepted (offer code w x) && isStep x && releases code w g
+
+abbrev pub completesAt : List ℕ → ℕ → World → Offer → Bool
+completesAt code g w x = accepted (offer code w x) && isStep x && completes code w g
+
+-- how many there are among the offers xs, one after the other from w
+abbrev pub releasesIn : List ℕ → World → ℕ → List Offer → ℕ
+releasesIn code w g xs = countIn code (releasesAt code g) w xs
+
+abbrev pub completesIn : List ℕ → World → ℕ → List Offer → ℕ
+completesIn code w g xs = countIn code (completesAt code g) w xs
+
+abbrev pub selectionsIn : List ℕ → World → List Offer → ℕ
+selectionsIn code w xs = countIn code (selectsAt code) w xs
+
+-- the world after xs and one offer more
+abbrev pub afterNext : List ℕ → World → List Offer → Offer → World
+afterNext code w xs x = after (afterAll code w xs) (offer code (afterAll code w xs) x)
+
+-- with fewer than k releases process i still waits, by as many places nearer, and does not hold; the k-th makes it the holder
+abbrev pub WaitsStill : List ℕ → World → ℕ → ℕ → ℕ → List Offer → Type 0
+WaitsStill code w g k i xs =
+    releasesIn code w g xs < k
+    → Waits (afterAll code w xs) g (k - releasesIn code w g xs) i × (holder (afterAll code w xs) g ≡ i → ⊥)
+
+abbrev pub HoldsThen : List ℕ → World → ℕ → ℕ → ℕ → List Offer → Type 0
+HoldsThen code w g k i xs =
+    (x : Offer)
+    → releasesIn code w g xs + 1 ≡ k
+    → releasesAt code g (afterAll code w xs) x ≡ true
+    → holder (afterNext code w xs x) g ≡ i
+
+-- "holds the gate at the k-th release"
+abbrev pub HoldsAtRelease : Type 0
+HoldsAtRelease =
+    (code : List ℕ) (w : World) (g k i : ℕ) (xs : List Offer)
+    → Shaped (w .machine)
+    → sound (w .machine) ≡ true
+    → Waits w g k i
+    → WaitsStill code w g k i xs × HoldsThen code w g k i xs
+
+-- xs has a first part after which i holds gate g, with k releases and at most n completed operations
+pub record HeldWithin (code : List ℕ) (w : World) (g k n i : ℕ) (xs : List Offer) : Type 0 where
+  pub ys : List Offer
+  pub zs : List Offer
+  pub whole : xs ≡ ys ++ zs
+  pub holds : holder (afterAll code w ys) g ≡ i
+  pub kth : releasesIn code w g ys ≡ k
+  pub soon : completesIn code w g ys ≤ n
+
+-- "and no later than the (2k - 1 + d)-th completed leave, delay or continue"
+abbrev pub bound : ℕ → ℕ → ℕ
+bound k d = 2 * k - 1 + d
+
+abbrev pub HoldsInTime : Type 0
+HoldsInTime =
+    (code : List ℕ) (w : World) (g k i : ℕ) (xs : List Offer)
+    → Shaped (w .machine)
+    → sound (w .machine) ≡ true
+    → Waits w g k i
+    → bound k (delayed w g) ≤ completesIn code w g xs
+    → HeldWithin code w g k (bound k (delayed w g)) i xs
+
+-- with fewer than j selections process i is still ready, by as many places nearer, and does not run; in the j-th it is taken
+abbrev pub ReadyStill : List ℕ → World → ℕ → ℕ → List Offer → Type 0
+ReadyStill code w j i xs =
+    selectionsIn code w xs < j
+    → InPlace (ready ((afterAll code w xs) .machine) 0) (j - selectionsIn code w xs) i × ((afterAll code w xs) .machine .running ≡ i → ⊥)
+
+abbrev pub RunsThen : List ℕ → World → ℕ → ℕ → List Offer → Type 0
+RunsThen code w j i xs =
+    (x : Offer)
+    → selectionsIn code w xs + 1 ≡ j
+    → selectsAt code (afterAll code w xs) x ≡ true
+    → (afterNext code w xs x) .machine .running ≡ i
+
+-- "place j of class 0 runs at the j-th selection"
+abbrev pub RunsAtSelection : Type 0
+RunsAtSelection =
+    (code : List ℕ) (w : World) (j i : ℕ) (xs : List Offer)
+    → Shaped (w .machine)
+    → sound (w .machine) ≡ true
+    → InPlace (ready (w .machine) 0) j i
+    → ReadyStill code w j i xs × RunsThen code w j i xs
