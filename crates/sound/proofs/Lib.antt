@@ -1,0 +1,4 @@
+pub mod Laws
+pub mod Tallies
+pub mod Parts
+pub mod Whole
