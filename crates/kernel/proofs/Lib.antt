@@ -1,0 +1,4 @@
+pub mod Laws
+pub mod Part
+pub mod Records
+pub mod Door

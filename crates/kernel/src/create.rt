@@ -1,0 +1,86 @@
+// Call 3: new process.
+ghost use mathlib.Core.Path.{_≡_};
+ghost use mathlib.Core.List.{_++_};
+ghost use Prim.Native.Nat.{_+_, _*_, _-_, _≤_, _<_};
+ghost use lib.ListN.{length, getD, take, drop, replicate};
+ghost use Rattle.notation.specs.Upto.{listTo};
+ghost use Rattle.machine.specs.Store.{own};
+ghost use Rattle.machine.specs.View.{cleared};
+ghost use Rattle.machine.specs.Call.{call3};
+ghost use Rattle.kernel.specs.Did.{OnPrivate, Ready};
+ghost use Rattle.kernel.specs.Part.{partWith};
+use crate::answer::Answer;
+use crate::answer::goes;
+use crate::answer::stops;
+use crate::caller::has_words;
+use crate::caller::passed;
+use crate::caller::regs_of;
+use crate::caller::stack_word;
+use crate::caller::wide;
+use crate::caller::wide_byte;
+use machine::Machine;
+use word::fault;
+
+// 2,048 words from a place on become zero.
+fn clear(private: &mut [u16], at: usize)
+    requires { ⌜ at + 2048 ≤ length (now private) ⌝ }
+    ensures { λ x. ⌜ now (private .exit) ≡ cleared (now (private .entry)) at 2048 ⌝ }
+{
+    for k in 0..2048 {
+        private[at + k] = 0;
+    }
+}
+
+// The p words below a place, the deepest first, stand first in the part.
+fn copy(private: &mut [u16], at: usize, deepest: usize, p: usize)
+    requires { ⌜ (p ≤ 2048) × (p ≤ deepest + 1) × (deepest < at) × (at + 2048 ≤ length (now private)) ⌝ }
+    ensures { λ x. ⌜ now (private .exit) ≡ partWith (now (private .entry)) at (λ k. getD (now (private .entry)) (deepest - k) 0) p ⌝ }
+{
+    for k in 0..p {
+        private[at + k] = private[deepest - k];
+    }
+}
+
+// The child's part is cleared, then the p words stand first in the order pushed: the first pushed lies deepest.
+fn new_part(child: u8, s: u16, p: u16, private: &mut [u16])
+    requires { ⌜ (1 ≤ child) × (child < 10) × (2048 ≤ s) × (s + (3 + p) ≤ 4096) × (p ≤ 1024) × (length (now private) ≡ 20480) ⌝ }
+    ensures { λ x. ⌜ now (private .exit) ≡ take (2048 * child) (now (private .entry)) ++ (listTo (λ k. getD (now (private .entry)) (own 0 (s + (2 + p - k))) 0) p ++ (replicate (2048 - p) 0 ++ drop (2048 * child + 2048) (now (private .entry)))) ⌝ }
+{
+    let at = 2048 * wide_byte(child);
+    let deepest = wide(s) - 2048 + 2 + wide(p);
+    clear(private, at);
+    copy(private, at, deepest, wide(p));
+}
+
+// 3 new process: pop t, v, p, then p words.
+pub(crate) fn call3(m: Machine, private: &mut [u16]) -> Answer
+    requires { ⌜ Ready m × (length (now private) ≡ 20480) ⌝ }
+    ensures { λ x. ⌜ OnPrivate x m (now (private .entry)) (now (private .exit)) call3 ⌝ }
+{
+    let i = m.running;
+    let r = regs_of(m);
+    let words = has_words(r, 3);
+    if !words {
+        return stops(m, fault::CODE);
+    }
+    let t = stack_word(i, r, 0, private);
+    let v = stack_word(i, r, 1, private);
+    let p = stack_word(i, r, 2, private);
+    let limit = !(m.running == 0) | (10 <= m.created);
+    if limit {
+        return stops(m, fault::LIMIT);
+    }
+    let range = (1024 < v) | (v < p);
+    if range {
+        return stops(m, fault::RANGE);
+    }
+    let all = has_words(r, 3 + p);
+    if !all {
+        return stops(m, fault::CODE);
+    }
+    if m.length <= t {
+        return stops(m, fault::CODE);
+    }
+    new_part(m.created, r.s, p, private);
+    goes(passed(m, r.s + (3 + p)).create_process(t, v))
+}

@@ -1,0 +1,184 @@
+// Call 11: I/O, and the record of a busy device.
+ghost use mathlib.Core.Path.{_≡_};
+ghost use mathlib.Core.Bool.{true, _&&_, _||_, not};
+ghost use mathlib.Core.List.{[]};
+ghost use Prim.Native.Nat.{_+_, _≤_, _<_};
+ghost use lib.Dec.{eqb, leb};
+ghost use lib.ListN.{length};
+ghost use Rattle.machine.specs.State.{proc};
+ghost use Rattle.machine.specs.Store.{whole, placeOf, wordIn, commonWith, privateWith};
+ghost use Rattle.machine.specs.Device.{isPresent, isBusy};
+ghost use Rattle.machine.specs.Call.{stackWord, ioBegins, call11};
+ghost use Rattle.kernel.specs.Did.{world, OnStores, Ready, handedBack};
+use crate::answer::Answer;
+use crate::answer::End;
+use crate::answer::goes;
+use crate::answer::stops;
+use crate::caller::has_words;
+use crate::caller::own;
+use crate::caller::passed;
+use crate::caller::regs_of;
+use crate::caller::stack_word;
+use crate::caller::wide;
+use machine::Machine;
+use word::fault;
+
+// Four words that lie whole in one store.
+pub(crate) fn is_whole(a: u16) -> bool
+    ensures { λ r. ⌜ r ≡ whole a ⌝ }
+{
+    (a <= 2044) | ((2048 <= a) & (a <= 4092))
+}
+
+// The word at an address of process i.
+fn fetch(i: u8, a: u16, common: &[u16], private: &[u16]) -> u16
+    requires { ⌜ (i < 10) × (a < 4096) × (length (now common) ≡ 2048) × (length (now private) ≡ 20480) ⌝ }
+    ensures { λ r. ⌜ r ≡ wordIn (placeOf a) i (now (common .entry)) (now (private .entry)) ⌝ }
+{
+    if a < 2048 {
+        let at = wide(a);
+        common[at]
+    } else {
+        let at = own(i, a);
+        private[at]
+    }
+}
+
+// A word at an address of process i.
+pub(crate) fn store(i: u8, a: u16, x: u16, common: &mut [u16], private: &mut [u16])
+    requires { ⌜ (i < 10) × (a < 4096) × (length (now common) ≡ 2048) × (length (now private) ≡ 20480) ⌝ }
+    ensures { λ r. ⌜ (now (common .exit) ≡ commonWith (placeOf a) x (now (common .entry))) × (now (private .exit) ≡ privateWith (placeOf a) i x (now (private .entry))) ⌝ }
+{
+    if a < 2048 {
+        let at = wide(a);
+        common[at] = x;
+    } else {
+        let at = own(i, a);
+        private[at] = x;
+    }
+}
+
+// Whether device d, 0 to 4, is present: bits 0 to 4.
+fn is_present(m: Machine, d: u16) -> bool
+    requires { ⌜ d ≤ 4 ⌝ }
+    ensures { λ r. ⌜ r ≡ isPresent m d ⌝ }
+{
+    let x = m.present;
+    match d {
+        0 => x % 2 == 1,
+        1 => x / 2 % 2 == 1,
+        2 => x / 4 % 2 == 1,
+        3 => x / 8 % 2 == 1,
+        _ => x / 16 % 2 == 1,
+    }
+}
+
+// Control (3) on device 0, if present, busy or not.
+fn is_for_bell(m: Machine, d: u16, operation: u16) -> bool
+    ensures { λ r. ⌜ r ≡ (eqb d 0 && eqb operation 3 && isPresent m 0) ⌝ }
+{
+    let present = is_present(m, 0);
+    (d == 0) & (operation == 3) & present
+}
+
+// Absent or busy.
+fn is_refused(m: Machine, d: u16) -> bool
+    requires { ⌜ d ≤ 4 ⌝ }
+    ensures { λ r. ⌜ r ≡ (not (isPresent m d) || isBusy m d) ⌝ }
+{
+    let present = is_present(m, d);
+    let busy = is_busy(m, d);
+    !present | busy
+}
+
+fn is_busy(m: Machine, d: u16) -> bool
+    requires { ⌜ d ≤ 4 ⌝ }
+    ensures { λ r. ⌜ r ≡ isBusy m d ⌝ }
+{
+    let x = m.devices[d as usize];
+    x.process < 10
+}
+
+// The caller waits for the bell, goes on, or waits for the device; the status stands in its record.
+fn begin(
+    m: Machine,
+    d: u16,
+    operation: u16,
+    a: u16,
+    common: &mut [u16],
+    private: &mut [u16],
+) -> Answer
+    requires { ⌜ Ready m × (leb ((proc m (m .running)) .regs .s + 2) ((proc m (m .running)) .regs .b) ≡ true) × (d ≤ 4) × (operation ≤ 3) × (a ≤ 4092) × (a ≡ stackWord (world m [] (now private)) 0) × (length (now common) ≡ 2048) × (length (now private) ≡ 20480) ⌝ }
+    ensures { λ x. ⌜ OnStores x m (now (common .entry)) (now (common .exit)) (now (private .entry)) (now (private .exit)) (λ w. ioBegins w d operation) ⌝ }
+{
+    let i = m.running;
+    let r = regs_of(m);
+    let next = passed(m, r.s + 2);
+    let bell = is_for_bell(m, d, operation);
+    if bell {
+        store(i, a + 1, 0, common, private);
+        return goes(next.bell_wait());
+    }
+    let refused = is_refused(m, d);
+    if refused {
+        store(i, a + 1, 3, common, private);
+        return goes(next);
+    }
+    store(i, a + 1, 0, common, private);
+    let machine = next.device_start(d as u8, operation as u8, a);
+    Answer {
+        machine,
+        end: End::Starts(d as u8),
+    }
+}
+
+// 11 I/O: pop record address, device.
+pub(crate) fn call11(m: Machine, common: &mut [u16], private: &mut [u16]) -> Answer
+    requires { ⌜ Ready m × (length (now common) ≡ 2048) × (length (now private) ≡ 20480) ⌝ }
+    ensures { λ x. ⌜ OnStores x m (now (common .entry)) (now (common .exit)) (now (private .entry)) (now (private .exit)) call11 ⌝ }
+{
+    let i = m.running;
+    let r = regs_of(m);
+    let words = has_words(r, 2);
+    if !words {
+        return stops(m, fault::CODE);
+    }
+    let a = stack_word(i, r, 0, private);
+    let d = stack_word(i, r, 1, private);
+    let one = is_whole(a);
+    if !one {
+        return stops(m, fault::POINTER);
+    }
+    let operation = fetch(i, a, common, private);
+    let known = (d <= 4) & (operation <= 3);
+    if known {
+        begin(m, d, operation, a, common, private)
+    } else {
+        stops(m, fault::RANGE)
+    }
+}
+
+// The record of a busy device, a part of the common or of the private store.
+pub fn record<'a>(m: Machine, d: u8, common: &'a [u16], private: &'a [u16]) -> &'a [u16]
+    ensures { λ r. ⌜ now r ≡ handedBack (world m (now (common .entry)) (now (private .entry))) d ⌝ }
+{
+    let fit = (common.len() == 2048) & (private.len() == 20480) & (d < 5);
+    if !fit {
+        return &common[0..0];
+    }
+    let x = m.devices[d as usize];
+    let one = is_whole(x.address);
+    let known = one & (x.process < 10);
+    if !known {
+        return &common[0..0];
+    }
+    let a = wide(x.address);
+    if a < 2048 {
+        let e = a + 4;
+        &common[a..e]
+    } else {
+        let s = own(x.process, x.address);
+        let e = s + 4;
+        &private[s..e]
+    }
+}

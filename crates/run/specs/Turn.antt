@@ -1,0 +1,42 @@
+-- A turn: a burst of the running process, and what follows it
+use mathlib.Core.List.{List}
+use Prim.Native.Nat.{ℕ, _+_}
+use Rattle.notation.specs.If.{if}
+use Rattle.machine.specs.declared.Regs.{Regs}
+use Rattle.machine.specs.declared.Machine.{Machine}
+use Rattle.machine.specs.State.{proc, withProcess, withRegs}
+use Rattle.machine.specs.Store.{World, withPart}
+use Rattle.machine.specs.Classes.{selects}
+use Rattle.machine.specs.Call.{kernel}
+use Rattle.machine.specs.Step.{view, onward, stopped, Stepped, stepped, selected, halted, called}
+use Rattle.engine.specs.declared.burst.End.{End}
+use Rattle.engine.specs.declared.burst.End.the-variants.{Budget, Call, Fault, Job, Unfit}
+use Rattle.engine.specs.Burst.{Bursted, bursts}
+
+-- the world with other registers of the running process, and other words of the common store and of that process's part
+abbrev pub put : World → Regs → List ℕ → List ℕ → World
+put w r common own =
+    let i : ℕ = w .machine .running in
+    record { machine = withProcess (w .machine) i (withRegs (proc (w .machine) i) r); common = common; private = withPart i own (w .private) }
+
+-- a step after k instructions
+abbrev pub later : ℕ → Stepped → Stepped
+later k s = stepped (s .world) (s .ended) (k + s .count)
+
+-- after k instructions that led to the world v: the selection; the kernel call; the stop. From a sound state none is unfit
+abbrev pub follows : End → World → ℕ → Stepped
+follows Budget v k = stepped (selected v) onward k
+follows Job v k = stepped (selected v) onward k
+follows (Call c) v k = later k (called v (kernel v c))
+follows (Fault f) v k = later k (halted v f)
+follows Unfit v k = stepped v stopped 0
+
+abbrev pub turned : World → Bursted → Stepped
+turned w x = follows (x .burst .end) (put w (x .burst .regs) (x .common) (x .own)) (x .burst .count)
+
+unfoldable pub turn : List ℕ → ℕ → World → Stepped
+turn code quota w = turned w (bursts quota (view code w))
+
+-- a better class that is ready when the turn begins displaces the process after one instruction; and none becomes so without the kernel
+abbrev pub quotaOf : Machine → ℕ → ℕ
+quotaOf m budget = if (selects m) 1 budget

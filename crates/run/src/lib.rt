@@ -1,0 +1,1 @@
+// The run: the machine's operations, offered and taken or refused.
