@@ -1,0 +1,4 @@
+pub mod Laws
+pub mod Says
+pub mod Inverse
+pub mod Typed

@@ -1,0 +1,4 @@
+pub mod Inverse
+pub mod Layout
+pub mod Read
+pub mod Write
