@@ -33,26 +33,26 @@ pub data Steps (code : List ℕ) : ℕ → ℕ → World → Stepped → Type 0 
 
 -- ---- a burst of a state that accepts a step
 module _ (code : List ℕ) (w : World) (able : Able code w) (runs : w .machine .running < nobody) where
-  abbrev v : View
+  abbrev pub v : View
   v = view code w
 
-  abbrev d : Effect
+  abbrev pub d : Effect
   d = instruct v
 
-  few : w .machine .running < length (w .machine .processes)
+  pub few : w .machine .running < length (w .machine .processes)
   few = omega (arith, able .shape .processes)
 
-  room : 2048 * w .machine .running + 2048 ≤ length (w .private)
+  pub room : 2048 * w .machine .running + 2048 ≤ length (w .private)
   room = omega (arith, private-long code w able)
 
-  own-long : length (d .own) ≡ 2048
+  pub own-long : length (d .own) ≡ 2048
   own-long = stores-kept v (able-fit code w able runs) .1
 
   one-step : (o : Out) → d .out ≡ o → step code w ≡ resulted w o (d .common) (d .own)
   unfolding step
   one-step o e = rw (lt-leb nobody (w .machine .running) runs, e)
 
-  burst-step : (o : Out) → d .out ≡ o → (c k : ℕ) → goesOn c (suc k) v ≡ burstFollows o v d c (goesOn (c + 1) k (after o v d))
+  pub burst-step : (o : Out) → d .out ≡ o → (c k : ℕ) → goesOn c (suc k) v ≡ burstFollows o v d c (goesOn (c + 1) k (after o v d))
   unfolding goesOn
   burst-step o e c k = rw e
 
@@ -76,17 +76,17 @@ module _ (code : List ℕ) (w : World) (able : Able code w) (runs : w .machine .
 
   -- it goes on
   module _ (r : Regs) (e : d .out ≡ next r) (stays : selects (w .machine) ≡ false) where
-    abbrev w′ : World
+    abbrev pub w′ : World
     w′ = put w r (d .common) (d .own)
 
-    steps-on : step code w ≡ stepped w′ onward 1
+    pub steps-on : step code w ≡ stepped w′ onward 1
     steps-on = rw (one-step (next r) e, put-selected w r (d .common) (d .own) few stays)
 
-    runs-on : w′ .machine .running < nobody
+    pub runs-on : w′ .machine .running < nobody
     unfolding withProcess
     runs-on = runs
 
-    stays-on : selects (w′ .machine) ≡ false
+    pub stays-on : selects (w′ .machine) ≡ false
     stays-on = put-selects w r (d .common) (d .own) few ∙ stays
 
     turns-on : jobOver (v .regs) r ≡ false → (c k : ℕ)
@@ -132,7 +132,7 @@ turn-all code (suc k) w able runs stays c =
 
 -- a sound state is fit for its burst
 module _ (code : List ℕ) (w : World) (able : Able code w) (runs : w .machine .running < nobody) where
-  is-fit : fit (view code w) ≡ true
+  pub is-fit : fit (view code w) ≡ true
   is-fit =
       let f = able-fit code w able runs in
       let o = f .ordered in

@@ -1,0 +1,221 @@
+-- How a burst of a sound state ends, and what the code that follows it needs
+use mathlib.Core.Path.{_≡_, refl, sym, ap, subst, _∙_}
+use mathlib.Core.Bool.{Bool, true, false, and-false}
+use mathlib.Core.List.{List}
+use Prim.Native.Nat.{ℕ, zero, suc, _+_, _-_, _*_, _<_, _≤_}
+use native.Mathlib.Omega.{arith}
+use lib.ListN.{length, take, drop}
+use lib.Seq.{drop-drop}
+use borrow.Author.Tests.{lt-ltb, le-leb}
+use borrow.Rule.Slice.PartMut.{midOf, putMid}
+use Rattle.notation.proofs.Upto.{split}
+use Rattle.machine.specs.declared.Regs.{Regs}
+use Rattle.machine.specs.declared.Machine.{Machine}
+use Rattle.machine.specs.State.{nobody, proc, floorOf, withProcess, withRegs}
+use Rattle.machine.specs.Store.{World, partOf, withPart}
+use Rattle.machine.specs.View.{View, Out, next, faults, calls, Effect}
+use Rattle.machine.specs.Instruction.{instruct}
+use Rattle.machine.specs.Classes.{selects}
+use Rattle.machine.specs.Call.{Called, on, starts, stops, kernel}
+use Rattle.machine.specs.Step.{view, Stepped, called}
+use Rattle.promises.proofs.Runs.{at-most, job-high}
+use Rattle.promises.proofs.Marks.{Asks, marked}
+use Rattle.promises.proofs.Tested.{tested}
+use Rattle.promises.proofs.Calls.{Fine, goes, begins, halts, fine}
+use Rattle.promises.proofs.Stepping.{Able, private-long, able-fit, able-again}
+use Rattle.engine.specs.declared.burst.Burst.{Burst}
+use Rattle.engine.specs.declared.burst.End.{End}
+use Rattle.engine.specs.declared.burst.End.the-variants.{Budget, Call, Fault, Job, Unfit}
+use Rattle.engine.specs.Burst.{Bursted, bursted, moved, jobOver, goesOn, bursts}
+use Rattle.kernel.specs.declared.answer.Answer.{Answer}
+use Rattle.kernel.specs.Did.{Outcome, done, outcome, ready, traps}
+use Rattle.run.specs.Turn.{put, later, follows, turned, turn, quotaOf}
+use Rattle.run.specs.Said.{world}
+use Rattle.run.specs.Ran.{Accepted, settles, Small, Callable}
+use Rattle.run.proofs.Parts.{put-same, put-view, put-put}
+use Rattle.run.proofs.Turns.{few, room, own-long, burst-step, steps-on, runs-on, stays-on, is-fit}
+
+-- ---- the part of the private store that a burst is lent
+module _ (code : List ℕ) (m : Machine) (quota : ℕ) (common q : List ℕ) where
+  abbrev i : ℕ
+  i = m .running
+
+  abbrev seenBy : List ℕ → View
+  seenBy o = record { code = code; floor = floorOf (proc m i); holding = (view code (world m common q)) .holding; regs = (proc m i) .regs; common = common; own = o }
+
+  pub burst-put : (x : Burst) (c o : List ℕ) → record { burst = x; common = c; own = o } ≡ bursts quota (seenBy (midOf (2048 * i) (2048 * i + 2048 - 2048 * i) q))
+      → (x ≡ (bursts quota (view code (world m common q))) .burst)
+      × (c ≡ (bursts quota (view code (world m common q))) .common)
+      × (putMid (2048 * i) (2048 * i + 2048 - 2048 * i) q o ≡ withPart i ((bursts quota (view code (world m common q))) .own) q)
+  burst-put x c o e =
+      let z : 2048 * i + 2048 - 2048 * i ≡ 2048 = omega arith in
+      let h : record { burst = x; common = c; own = o } ≡ bursts quota (view code (world m common q)) = rw z at e in
+      (ap (λ (b : Bursted). b .burst) h, ap (λ (b : Bursted). b .common) h, rw (z, ap (λ (b : Bursted). b .own) h, drop-drop 2048 (2048 * i) q))
+
+-- ---- how a burst ends: after at most so many instructions; a call and a fault are not counted yet
+abbrev pub Ends : List ℕ → End → World → ℕ → ℕ → Type 0
+Ends code Budget v count most = count ≤ most
+Ends code Job v count most = count ≤ most
+Ends code (Call k) v count most = (count < most) × Able code v × (v .machine .running < nobody) × ((instruct (view code v)) .out ≡ calls k)
+Ends code (Fault f) v count most = (count < most) × (f ≤ 9)
+Ends code Unfit v count most = ⊥
+
+abbrev EndsWell : List ℕ → World → ℕ → Bursted → Type 0
+EndsWell code w most x = Ends code (x .burst .end) (put w (x .burst .regs) (x .common) (x .own)) (x .burst .count) most
+
+module _ (code : List ℕ) (w : World) (able : Able code w) (runs : w .machine .running < nobody) where
+  abbrev v : View
+  v = view code w
+
+  abbrev d : Effect
+  d = instruct v
+
+  end-fault : (f : ℕ) → d .out ≡ faults f → (c k most : ℕ) → c + suc k ≡ most → EndsWell code w most (goesOn c (suc k) v)
+  end-fault f e c k most z = rw (burst-step code w able runs (faults f) e c k) (omega arith, rw e at (marked v (able-fit code w able runs)))
+
+  end-call : (j : ℕ) → d .out ≡ calls j → (c k most : ℕ) → c + suc k ≡ most → EndsWell code w most (goesOn c (suc k) v)
+  end-call j e c k most z =
+      rw (burst-step code w able runs (calls j) e c k)
+      (subst (λ (u : World). (c < most) × Able code u × (u .machine .running < nobody) × ((instruct (view code u)) .out ≡ calls j)) (sym (put-same code w)) (omega arith, able, runs, e))
+
+  end-job : (r : Regs) → d .out ≡ next r → jobOver (v .regs) r ≡ true → (c k most : ℕ) → c + suc k ≡ most → EndsWell code w most (goesOn c (suc k) v)
+  end-job r e j c k most z = rw (burst-step code w able runs (next r) e c k, j) (omega arith)
+
+  end-one : (r : Regs) → d .out ≡ next r → jobOver (v .regs) r ≡ false → (c most : ℕ) → c + 1 ≡ most → EndsWell code w most (goesOn c 1 v)
+  unfolding goesOn
+  end-one r e j c most z = rw (burst-step code w able runs (next r) e c 0, j) (omega arith)
+
+  end-more : (r : Regs) → d .out ≡ next r → jobOver (v .regs) r ≡ false → (c k most : ℕ)
+      → EndsWell code (put w r (d .common) (d .own)) most (goesOn (c + 1) k (view code (put w r (d .common) (d .own))))
+      → EndsWell code w most (goesOn c (suc k) v)
+  end-more r e j c k most rest =
+      let f = few code w able runs in
+      let l = own-long code w able runs in
+      let o = room code w able runs in
+      let x : Bursted = goesOn (c + 1) k (moved v r (d .common) (d .own)) in
+      let h = rw (put-view w r (d .common) (d .own) f l o code, put-put w r (d .common) (d .own) f l o (x .burst .regs) (x .common) (x .own)) at rest in
+      rw (burst-step code w able runs (next r) e c k, j) h
+
+end-first : (code : List ℕ) (w : World) → Able code w → w .machine .running < nobody → (c most : ℕ) → c + 1 ≡ most → (o : Out) → (instruct (view code w)) .out ≡ o
+    → EndsWell code w most (goesOn c 1 (view code w))
+end-first code w able runs c most z (faults f) e = end-fault code w able runs f e c 0 most z
+end-first code w able runs c most z (calls j) e = end-call code w able runs j e c 0 most z
+end-first code w able runs c most z (next r) e =
+    split (jobOver ((view code w) .regs) r)
+    (λ j. end-job code w able runs r e j c 0 most z)
+    (λ j. end-one code w able runs r e j c most z)
+
+end-next : (code : List ℕ) (w : World) → Able code w → w .machine .running < nobody → selects (w .machine) ≡ false → (c k most : ℕ) → c + suc k ≡ most
+    → ((w′ : World) → Able code w′ → w′ .machine .running < nobody → selects (w′ .machine) ≡ false → EndsWell code w′ most (goesOn (c + 1) k (view code w′)))
+    → (o : Out) → (instruct (view code w)) .out ≡ o → EndsWell code w most (goesOn c (suc k) (view code w))
+end-next code w able runs stays c k most z rest (faults f) e = end-fault code w able runs f e c k most z
+end-next code w able runs stays c k most z rest (calls j) e = end-call code w able runs j e c k most z
+end-next code w able runs stays c k most z rest (next r) e =
+    split (jobOver ((view code w) .regs) r)
+    (λ j. end-job code w able runs r e j c k most z)
+    (λ j.
+    let able′ = subst (λ (x : Stepped). Able code (x .world)) (steps-on code w able runs r e stays) (able-again code w able runs) in
+    end-more code w able runs r e j c k most (rest _ able′ (runs-on code w able runs r e stays) (stays-on code w able runs r e stays)))
+
+end-all : (code : List ℕ) (k : ℕ) (w : World) → Able code w → w .machine .running < nobody → selects (w .machine) ≡ false → (c most : ℕ) → c + suc k ≡ most
+    → EndsWell code w most (goesOn c (suc k) (view code w))
+end-all code zero w able runs stays c most z = end-first code w able runs c most (omega arith) _ refl
+end-all code (suc k) w able runs stays c most z =
+    end-next code w able runs stays c (suc k) most z (λ w′ a r s. end-all code k w′ a r s (c + 1) most (omega arith)) _ refl
+
+ends-well : (code : List ℕ) (w : World) → Able code w → w .machine .running < nobody → (budget : ℕ) → 0 < budget
+    → EndsWell code w (quotaOf (w .machine) budget) (bursts (quotaOf (w .machine) budget) (view code w))
+unfolding bursts
+ends-well code w able runs zero l = absurd (omega arith)
+ends-well code w able runs (suc b) l =
+    split (selects (w .machine))
+    (λ t. rw (t, is-fit code w able runs) (end-first code w able runs 0 1 (omega arith) _ refl))
+    (λ t. rw (t, is-fit code w able runs) (end-all code b w able runs t 0 (suc b) (omega arith)))
+
+-- ---- a turn is what follows its burst
+module _ (code : List ℕ) (m : Machine) (c q : List ℕ) (budget : ℕ) (accepted : Accepted code (world m c q)) (runs : m .running < nobody) (some : 0 < budget) where
+  abbrev w : World
+  w = world m c q
+
+  pub able : Able code w
+  able = record { shape = accepted .shape; sound = accepted .sound; stores = accepted .stores; long = accepted .long }
+
+  pub fit-burst : (m .running < 10) × ((proc m (m .running)) .variables ≤ 2048) × (length q ≡ 20480)
+  fit-burst =
+      let o = able-fit code w able runs .ordered in
+      let high = job-high (length code) ((proc m (m .running)) .regs) (o .job) in
+      (runs, omega (arith, o .stack, o .frame, o .ceiling, high), private-long code w able)
+
+  module _ (quota : ℕ) (same : quota ≡ quotaOf m budget) (x : Burst) (c₁ q₁ : List ℕ)
+      (e : (x ≡ (bursts quota (view code w)) .burst) × (c₁ ≡ (bursts quota (view code w)) .common) × (q₁ ≡ withPart (m .running) ((bursts quota (view code w)) .own) q))
+      (n : Machine) (f : n ≡ withProcess m (m .running) (withRegs (proc m (m .running)) (x .regs)))
+      (en : End) (g : x .end ≡ en) where
+    follows-on : turn code (quotaOf m budget) w ≡ follows en (world n c₁ q₁) (x .count)
+    unfolding turn
+    follows-on = rw (f, ← g, e .0, e .1, e .2, same)
+
+    pub by-end : (r : Stepped) → r ≡ follows en (world n c₁ q₁) (x .count) → r ≡ turn code (quotaOf m budget) w
+    by-end r h = h ∙ sym follows-on
+
+    pub ends-at : Ends code en (world n c₁ q₁) (x .count) (quotaOf m budget)
+    ends-at = rw (f, ← g, e .0, e .1, e .2, same) (ends-well code w able runs budget some)
+
+    pub same-running : n .running ≡ m .running
+    unfolding withProcess
+    same-running = rw f
+
+  pub quota-most : quotaOf m budget ≤ budget
+  quota-most = split (selects m) (λ t. rw t (omega arith)) (λ t. rw t (omega arith))
+
+-- ---- a kernel call of a sound state
+fine-small : {x : Called} (f : ℕ) → Fine x → x ≡ stops f → f ≤ 9
+fine-small f (halts g l) e = let z : g ≡ f = cc in omega arith
+fine-small f (goes p) e = let z : _≡_ {A = ℕ} 0 1 = cc in absurd (omega arith)
+fine-small f (begins d p) e = let z : _≡_ {A = ℕ} 0 1 = cc in absurd (omega arith)
+
+pub callable : (code : List ℕ) (w : World) (k : ℕ) → Able code w → w .machine .running < nobody → (instruct (view code w)) .out ≡ calls k → Callable w k
+callable code w k able runs e =
+    let f = able-fit code w able runs in
+    let o = f .ordered in
+    let a : Asks (view code w) = rw e at (marked (view code w) f) in
+    let s = tested (w .machine) (able .shape) (able .sound) in
+    let n = s .placed .numbers in
+    let short = at-most (w .machine .length) 16256 (n .header) (λ t. simp (t, and-false)) in
+    let high = job-high (length code) ((proc (w .machine) (w .machine .running)) .regs) (o .job) in
+    let r : Regs = (proc (w .machine) (w .machine .running)) .regs in
+    record {
+      stores = able .stores;
+      ready = rw (
+        lt-ltb _ _ runs,
+        le-leb 1 _ (n .some),
+        le-leb _ 25 (n .fewGates),
+        le-leb 2048 (r .s) (omega (arith, o .low, o .stack)),
+        le-leb _ _ (o .frame),
+        le-leb (r .b) 4096 (omega (arith, o .ceiling, high)),
+        le-leb (r .address) 16256 (omega (arith, o .address, able .long, short)),
+      );
+      small = λ f h. fine-small f (fine w (record { placed = s .placed; runs = runs; free = a .free; past = rw (← able .long) (a .past) }) k) h;
+    }
+
+-- what is done after it is what the definition does
+module _ (w : World) (k : ℕ) (can : Callable w k) (a : Answer) (c q : List ℕ) (e : done a c q ≡ traps w k) where
+  did-call : done a c q ≡ outcome w (kernel w k)
+  unfolding traps
+  did-call = e ∙ rw (can .stores, can .ready)
+
+  settled : (x : Called) → settles ((outcome w x) .end) (record { machine = (outcome w x) .machine; common = (outcome w x) .common; private = (outcome w x) .private }) ≡ called w x
+  settled (on v) = refl
+  settled (starts d v) = refl
+  settled (stops f) = refl
+
+  pub settles-call : settles (a .end) (world (a .machine) c q) ≡ called w (kernel w k)
+  settles-call =
+      ap (λ (o : Outcome). settles (o .end) (record { machine = o .machine; common = o .common; private = o .private })) did-call ∙ settled (kernel w k)
+
+  small : (x : Called) → ((f : ℕ) → x ≡ stops f → f ≤ 9) → w .machine .running < 10 → Small ((outcome w x) .end) ((outcome w x) .machine)
+  small (on v) h l = tt
+  small (starts d v) h l = tt
+  small (stops f) h l = (h f refl, l)
+
+  pub call-small : w .machine .running < 10 → Small (a .end) (a .machine)
+  call-small l = subst (λ (o : Outcome). Small (o .end) (o .machine)) (sym did-call) (small (kernel w k) (can .small) l)

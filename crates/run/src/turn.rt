@@ -1,0 +1,204 @@
+// Turns: a burst of the running process, and the selection, the kernel call or the stop that follows it.
+ghost use mathlib.Core.Path.{_≡_};
+ghost use mathlib.Core.List.{List};
+ghost use Prim.Native.Nat.{ℕ, _≤_, _<_};
+ghost use lib.ListN.{length};
+ghost use Rattle.machine.specs.State.{proc, timed, withProcess, withRegs};
+ghost use Rattle.machine.specs.Store.{withPart};
+ghost use Rattle.machine.specs.Call.{kernel};
+ghost use Rattle.machine.specs.Step.{view, onward, stepped, selected, halted, called};
+ghost use Rattle.machine.specs.Run.{run};
+ghost use Rattle.engine.specs.Burst.{bursts};
+ghost use Rattle.run.specs.Turn.{later, turn, quotaOf};
+ghost use Rattle.run.specs.Said.{world};
+ghost use Rattle.run.specs.Ran.{ran, isOnward, Accepted, settles, Small, Callable};
+use crate::answer::Ended;
+use crate::answer::Ran;
+use engine::Burst;
+use kernel::Answer;
+use machine::Machine;
+use machine::Regs;
+
+// The machine stops with a number, at the running process's last line.
+fn halt(mut m: Machine, f: u16) -> Machine
+    requires { ⌜ (m .running < 10) × (f ≤ 9) ⌝ }
+    ensures { λ r. ⌜ r ≡ timed m f ((proc m (m .running)) .regs .line) (m .seconds) (m .fraction) ⌝ }
+{
+    let i = m.running;
+    let p = m.processes[i as usize];
+    let r = p.regs;
+    m.stop = f as u8;
+    m.line = r.line;
+    m
+}
+
+// The running process has other registers.
+fn with_regs(mut m: Machine, r: Regs) -> Machine
+    requires { ⌜ m .running < 10 ⌝ }
+    ensures { λ x. ⌜ x ≡ withProcess m (m .running) (withRegs (proc m (m .running)) r) ⌝ }
+{
+    let i = m.running;
+    let mut p = m.processes[i as usize];
+    p.regs = r;
+    m.processes[i as usize] = p;
+    m
+}
+
+fn goes_on(m: Machine, count: u32) -> Ran
+    ensures { λ x. ⌜ ((c q : List ℕ) → ran x c q ≡ stepped (selected (world m c q)) onward count) ⌝ }
+{
+    Ran {
+        machine: m.select(),
+        ended: Ended::Onward,
+        count,
+    }
+}
+
+fn stops(m: Machine, f: u16, count: u32) -> Ran
+    requires { ⌜ (m .running < 10) × (f ≤ 9) × (count < 4294967295) ⌝ }
+    ensures { λ x. ⌜ ((c q : List ℕ) → ran x c q ≡ later count (halted (world m c q) f)) ⌝ }
+{
+    Ran {
+        machine: halt(m, f),
+        ended: Ended::Stopped,
+        count: count + 1,
+    }
+}
+
+// What follows a kernel call.
+fn settle(a: Answer, count: u32) -> Ran
+    requires { ⌜ Small (a .end) (a .machine) × (count < 4294967295) ⌝ }
+    ensures { λ x. ⌜ ((c q : List ℕ) → ran x c q ≡ later count (settles (a .end) (world (a .machine) c q))) ⌝ }
+{
+    let m = a.machine;
+    let end = a.end;
+    match end {
+        kernel::End::On => goes_on(m, count + 1),
+        kernel::End::Starts(d) => Ran {
+            machine: m.select(),
+            ended: Ended::Starting(d),
+            count: count + 1,
+        },
+        kernel::End::Stops(f) => stops(m, f, count),
+        kernel::End::Unfit => Ran {
+            machine: m,
+            ended: Ended::Stopped,
+            count,
+        },
+    }
+}
+
+// A kernel call of the running process.
+fn call(m: Machine, k: u16, count: u32, common: &mut [u16], private: &mut [u16]) -> Ran
+    requires { ⌜ Callable (world m (now common) (now private)) k × (count < 4294967295) ⌝ }
+    ensures { λ x. ⌜ ran x (now (common .exit)) (now (private .exit)) ≡ later count (called (world m (now (common .entry)) (now (private .entry))) (kernel (world m (now (common .entry)) (now (private .entry))) k)) ⌝ }
+{
+    let a = kernel::trap(m, k, common, private);
+    settle(a, count)
+}
+
+// Where a better class is ready when the turn begins, it is one instruction long.
+fn quota_of(m: Machine, budget: u32) -> u32
+    ensures { λ r. ⌜ r ≡ quotaOf m budget ⌝ }
+{
+    let one = m.selects();
+    if one { 1 } else { budget }
+}
+
+// A burst of the running process, on its own part of the private store.
+fn burst(m: Machine, code: &[u16], quota: u32, common: &mut [u16], private: &mut [u16]) -> Burst
+    requires { ⌜ (m .running < 10) × ((proc m (m .running)) .variables ≤ 2048) × (length (now private) ≡ 20480) ⌝ }
+    ensures { λ x. ⌜ (x ≡ (bursts quota (view (now (code .entry)) (world m (now (common .entry)) (now (private .entry))))) .burst) × (now (common .exit) ≡ (bursts quota (view (now (code .entry)) (world m (now (common .entry)) (now (private .entry))))) .common) × (now (private .exit) ≡ withPart (m .running) ((bursts quota (view (now (code .entry)) (world m (now (common .entry)) (now (private .entry))))) .own) (now (private .entry))) ⌝ }
+{
+    let i = m.running;
+    let p = m.processes[i as usize];
+    let floor = 2048 + p.variables;
+    let holding = 0 < p.holds;
+    let at = 2048 * (i as usize);
+    let end = at + 2048;
+    engine::run_burst(
+        code,
+        floor,
+        holding,
+        p.regs,
+        quota,
+        common,
+        &mut private[at..end],
+    )
+}
+
+// What follows the burst: from a sound state none is unfit.
+fn turn(m: Machine, code: &[u16], budget: u32, common: &mut [u16], private: &mut [u16]) -> Ran
+    requires { ⌜ Accepted (now code) (world m (now common) (now private)) × (m .running < 10) × (0 < budget) ⌝ }
+    ensures { λ x. ⌜ ran x (now (common .exit)) (now (private .exit)) ≡ turn (now (code .entry)) (quotaOf m budget) (world m (now (common .entry)) (now (private .entry))) ⌝ }
+{
+    let quota = quota_of(m, budget);
+    let x = burst(m, code, quota, common, private);
+    let regs = x.regs;
+    let count = x.count;
+    let end = x.end;
+    let moved = with_regs(m, regs);
+    match end {
+        engine::End::Budget => goes_on(moved, count),
+        engine::End::Job => goes_on(moved, count),
+        engine::End::Call(k) => call(moved, k, count, common, private),
+        engine::End::Fault(f) => stops(moved, f, count),
+        engine::End::Unfit => Ran {
+            machine: moved,
+            ended: Ended::Stopped,
+            count: 0,
+        },
+    }
+}
+
+fn is_onward(e: Ended) -> bool
+    ensures { λ r. ⌜ r ≡ isOnward e ⌝ }
+{
+    match e {
+        Ended::Onward => true,
+        Ended::Idle => false,
+        Ended::Starting(_) => false,
+        Ended::Stopped => false,
+    }
+}
+
+// Turns to the budget, to idle, to a device's start or to a stop.
+pub(crate) fn turns(
+    m: Machine,
+    code: &[u16],
+    budget: u32,
+    common: &mut [u16],
+    private: &mut [u16],
+) -> Ran
+    requires { ⌜ Accepted (now code) (world m (now common) (now private)) ⌝ }
+    ensures { λ x. ⌜ ran x (now (common .exit)) (now (private .exit)) ≡ run (now (code .entry)) budget (world m (now (common .entry)) (now (private .entry))) ⌝ }
+{
+    let mut machine = m;
+    let mut count: u32 = 0;
+    while count < budget {
+        if Machine::NOBODY <= machine.running {
+            return Ran {
+                machine,
+                ended: Ended::Idle,
+                count,
+            };
+        }
+        let t = turn(machine, code, budget - count, common, private);
+        let ended = t.ended;
+        machine = t.machine;
+        count = count + t.count;
+        let on = is_onward(ended);
+        if !on {
+            return Ran {
+                machine,
+                ended,
+                count,
+            };
+        }
+    }
+    Ran {
+        machine,
+        ended: Ended::Onward,
+        count,
+    }
+}
