@@ -2,10 +2,11 @@
 use mathlib.Core.Path.{_≡_, refl, sym, ap, _∙_}
 use mathlib.Core.Bool.{Bool, true, false, _&&_, not, and-true, and-false}
 use mathlib.Core.List.{List}
-use Prim.Native.Nat.{ℕ, zero, suc, _≤_, _<_}
+use Prim.Native.Nat.{ℕ, _≤_, _<_}
 use native.Mathlib.Omega.{arith}
 use lib.Dec.{ltb, eqb}
 use borrow.Author.Tests.{ltb-true, lt-ltb, le-ltb, ne-eqb, le-leb, lt-leb}
+use Rattle.notation.proofs.Upto.{NoneOf, none-past}
 use Rattle.machine.specs.View.{View, faults, Effect, effect, n, op, faulted}
 use Rattle.machine.specs.Job.{endJob, takesStop}
 use Rattle.machine.specs.Instruction.{perform, execute, settled, instruct}
@@ -14,19 +15,11 @@ use Rattle.engine.specs.declared.stack.Out.{Out}
 use Rattle.engine.specs.declared.stack.Out.the-variants.{Next, Fault, Call}
 use Rattle.engine.specs.Did.{seen, did}
 
--- ---- a code that is none of the first k is past them, and past all of them is none
-abbrev pub NoneOf : ℕ → ℕ → Type 0
-NoneOf code zero = Unit {0}
-NoneOf code (suc k) = NoneOf code k × (code ≡ k → ⊥)
-
-past : (code k : ℕ) → NoneOf code k → k ≤ code
-past code zero h = omega arith
-past code (suc k) h = omega (arith, past code k (h .0), h .1)
-
+-- ---- past all codes there is none
 pub no-code : (v : View) (code : ℕ) → NoneOf code 29 → faulted v 7 ≡ perform v code
 unfolding perform
 no-code v code h =
-    let far : 29 ≤ code = past code 29 h in
+    let far : 29 ≤ code = none-past code 29 h in
     let off : (k : ℕ) → ltb k 29 ≡ true → eqb code k ≡ false = λ k l. ne-eqb code k (omega (arith, ltb-true k 29 l)) in
     rw
     (off 0 refl, off 1 refl, off 2 refl, off 3 refl, off 4 refl, off 5 refl, off 6 refl, off 7 refl, off 8 refl, off 11 refl, le-leb 9 code (omega arith), lt-leb code 19 (omega arith), off 20 refl, off 21 refl, off 22 refl, off 23 refl, off 24 refl, off 25 refl, off 26 refl, off 27 refl, off 28 refl)

@@ -1,13 +1,13 @@
 -- KTRAP k by its number, and the done event: why the code's tests are those of the definitions
-use mathlib.Core.Path.{_≡_, refl, sym, ap, _∙_}
+use mathlib.Core.Path.{_≡_, refl, sym, _∙_}
 use mathlib.Core.Bool.{Bool, true, false, _&&_, and-false}
 use mathlib.Core.List.{List}
-use Prim.Native.Nat.{ℕ, zero, suc, _+_, _≤_, _<_}
+use Prim.Native.Nat.{ℕ, _+_, _≤_, _<_}
 use native.Mathlib.Omega.{arith}
-use lib.Dec.{leb, ltb, eqb}
+use lib.Dec.{ltb, eqb}
 use lib.ListN.{length}
-use borrow.Author.Tests.{ltb-true, eqb-true, leb-true, ne-eqb, le-leb, lt-leb}
-use Rattle.notation.proofs.Upto.{split, both}
+use borrow.Author.Tests.{ltb-true, eqb-true, ne-eqb}
+use Rattle.notation.proofs.Upto.{both, NoneOf, none-past}
 use Rattle.machine.specs.declared.Regs.{Regs}
 use Rattle.machine.specs.declared.Device.{Device}
 use Rattle.machine.specs.declared.Machine.{Machine}
@@ -17,24 +17,16 @@ use Rattle.machine.specs.Classes.{select}
 use Rattle.machine.specs.Device.{deviceEnd, recorded, deviceDone}
 use Rattle.machine.specs.Call.{kernel}
 use Rattle.machine.specs.Offer.{storesFit}
-use Rattle.promises.proofs.Runs.{part, at-most, equal}
-use Rattle.kernel.specs.declared.answer.Answer.{Answer}
+use Rattle.promises.proofs.Runs.{part, at-most}
 use Rattle.kernel.specs.declared.answer.End.the-variants.{Stops, Unfit}
 use Rattle.kernel.specs.Did.{world, done, outcome, Ready, ready, traps, ends}
+use Rattle.kernel.proofs.Records.{whole-high}
 
--- ---- a number that is none of the first k is past them, and past all of them is no call
-abbrev NoneOf : ℕ → ℕ → Type 0
-NoneOf n zero = Unit {0}
-NoneOf n (suc k) = NoneOf n k × (n ≡ k → ⊥)
-
-past : (n k : ℕ) → NoneOf n k → k ≤ n
-past n zero h = omega arith
-past n (suc k) h = omega (arith, past n k (h .0), h .1)
-
+-- ---- past all numbers there is no call
 pub no-call : (w : World) (k : ℕ) → NoneOf k 12 → record { machine = w .machine; common = w .common; private = w .private; end = Stops 7 } ≡ outcome w (kernel w k)
 unfolding kernel
 no-call w k h =
-    let far : 12 ≤ k = past k 12 h in
+    let far : 12 ≤ k = none-past k 12 h in
     let off : (j : ℕ) → ltb j 12 ≡ true → eqb k j ≡ false = λ j l. ne-eqb k j (omega (arith, ltb-true j 12 l)) in
     rw (off 0 refl, off 1 refl, off 2 refl, off 3 refl, off 4 refl, off 5 refl, off 6 refl, off 7 refl, off 8 refl, off 9 refl, off 10 refl, off 11 refl)
 
@@ -112,13 +104,7 @@ fit-device c q d t =
     let b = both (eqb (length c) 2048) (eqb (length q) 20480) (a .0) in
     (eqb-true _ _ (b .0), eqb-true _ _ (b .1), ltb-true _ _ (a .1))
 
-whole-most : (a : ℕ) → whole a ≡ true → a ≤ 4092
-whole-most a e =
-    split (leb a 2044)
-    (λ t. let z = leb-true a 2044 t in omega (arith, z))
-    (λ t. let z = rw t at e in leb-true a 4092 (both (leb 2048 a) (leb a 4092) z .1))
-
 pub able-record : (x : Device) (one : Bool) → one ≡ whole (x .address) → one && ltb (x .process) 10 ≡ true → (x .process < 10) × (x .address ≤ 4092)
 able-record x one e t =
     let a = both one (ltb (x .process) 10) t in
-    (ltb-true _ _ (a .1), whole-most (x .address) (sym e ∙ a .0))
+    (ltb-true _ _ (a .1), whole-high (x .address) (sym e ∙ a .0))

@@ -1,13 +1,13 @@
 -- Why the code's tests are those of the definitions
 use mathlib.Core.Path.{_≡_, refl, sym, ap, _∙_}
-use mathlib.Core.Bool.{Bool, true, false, _&&_, and-false}
+use mathlib.Core.Bool.{Bool, true, false, and-false}
 use mathlib.Core.List.{List}
 use Prim.Native.Nat.{ℕ, _+_, _-_, _≤_, _<_}
 use native.Mathlib.Omega.{arith}
 use lib.Dec.{leb, ltb, eqb}
-use lib.ListN.{length, getD, set}
-use lib.Seq.{getD-set-same, getD-set-other, set-out}
-use borrow.Author.Tests.{leb-true, eqb-true, eqb-false, lt-ltb, le-ltb, le-leb, lt-leb, eq-eqb, ne-eqb}
+use lib.ListN.{length, set}
+use lib.Seq.{getD-set-same}
+use borrow.Author.Tests.{leb-true, lt-ltb, le-ltb, le-leb, lt-leb, eq-eqb, ne-eqb}
 use borrow.Author.Needs.{needs}
 use Rattle.notation.specs.If.{if}
 use Rattle.notation.proofs.Upto.{split, never, below?}
@@ -19,7 +19,7 @@ use Rattle.machine.specs.Gate.{grant, enter, leave, delay, continue, makeGate, 
 use Rattle.machine.specs.Store.{World, own}
 use Rattle.machine.specs.Clock.{clockWait}
 use Rattle.machine.specs.Call.{stackWord, passed, call0, call1, call2, finish, call4, stopAnswer, stopJob, call5, call6, call7, call8, call9, call10}
-use Rattle.promises.proofs.Fixed.{fixed-make}
+use Rattle.promises.proofs.Fixed.{set-keeps, fixed-make}
 use Rattle.kernel.specs.declared.answer.Answer.{Answer}
 use Rattle.kernel.specs.declared.answer.End.the-variants.{On, Stops}
 use Rattle.kernel.specs.Did.{Ready, world, done, outcome}
@@ -95,14 +95,6 @@ unfolding mayDelay
 delay-cell-out m g y l = rw (continue-cell-out m g y l)
 
 -- ---- the top of the caller's stack after a move
-pub set-keeps : {A B : Type 0} (f : A → B) (l : List A) (i : ℕ) (x d : A) → f x ≡ f (getD l i d) → (k : ℕ) → f (getD (set l i x) k d) ≡ f (getD l k d)
-set-keeps f l i x d e k =
-    below? i (length l)
-    (λ l′. split (eqb k i)
-    (λ t. let z = eqb-true k i t in rw z (ap f (getD-set-same l i x d l′) ∙ e))
-    (λ t. ap f (getD-set-other l i k x d (eqb-false k i t))))
-    (λ l′. rw (set-out l i x l′))
-
 abbrev top : Machine → ℕ
 top m = (proc m (m .running)) .regs .s
 

@@ -172,3 +172,12 @@ neither false false e = (refl, refl)
 pub sum-last : (f : ℕ → ℕ) (n : ℕ) → sumTo f (suc n) ≡ sumTo f n + f n
 unfolding sumTo
 sum-last f n = refl
+
+-- ---- a number that is none of the first k is past them
+abbrev pub NoneOf : ℕ → ℕ → Type 0
+NoneOf n zero = Unit {0}
+NoneOf n (suc k) = NoneOf n k × (n ≡ k → ⊥)
+
+pub none-past : (n k : ℕ) → NoneOf n k → k ≤ n
+none-past n zero h = omega arith
+none-past n (suc k) h = omega (arith, none-past n k (h .0), h .1)

@@ -39,15 +39,19 @@ also a b =
 either : (b : Bool) {m x y : Machine} → Fixed m x → Fixed m y → Fixed m (if b x y)
 either b s t = split b (λ e. rw e s) (λ e. rw e t)
 
--- ---- one process changes, but for its registers
+-- ---- one part of a list changes, but for what is asked of it
+pub set-keeps : {A B : Type 0} (f : A → B) (l : List A) (i : ℕ) (x d : A) → f x ≡ f (getD l i d) → (k : ℕ) → f (getD (set l i x) k d) ≡ f (getD l k d)
+set-keeps f l i x d e k =
+    below? i (length l)
+    (λ l′. split (eqb k i)
+    (λ t. let z = eqb-true k i t in rw z (ap f (getD-set-same l i x d l′) ∙ e))
+    (λ t. ap f (getD-set-other l i k x d (eqb-false k i t))))
+    (λ l′. rw (set-out l i x l′))
+
+-- one process changes, but for its registers
 pub set-regs : (ps : List Process) (i : ℕ) (p : Process) → p .regs ≡ (getD ps i noProcess) .regs
     → (q : ℕ) → (getD (set ps i p) q noProcess) .regs ≡ (getD ps q noProcess) .regs
-set-regs ps i p e q =
-    below? i (length ps)
-    (λ l. split (eqb q i)
-    (λ t. let z = eqb-true q i t in rw z (ap (λ (x : Process). x .regs) (getD-set-same ps i p noProcess l) ∙ e))
-    (λ t. ap (λ (x : Process). x .regs) (getD-set-other ps i q p noProcess (eqb-false q i t))))
-    (λ l. ap (λ (x : List Process). (getD x q noProcess) .regs) (set-out ps i p l))
+set-regs ps i p e q = set-keeps (λ (x : Process). x .regs) ps i p noProcess e q
 
 with-process : (m : Machine) (i : ℕ) (p : Process) → p .regs ≡ (proc m i) .regs → Fixed m (withProcess m i p)
 unfolding withProcess

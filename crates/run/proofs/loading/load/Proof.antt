@@ -1,5 +1,5 @@
-use mathlib.Core.Path.{refl, _∙_, ap}
-use lib.ListN.{length, length-replicate}
+use mathlib.Core.Path.{_∙_, ap}
+use lib.ListN.{length}
 use borrow.Author.Needs.{needs}
 use Rattle.run.proofs.Loads as L
 use Rattle.run.proofs.loading.load.Statement.{statement}
