@@ -1,0 +1,4 @@
+pub mod Laws
+pub mod Chain
+pub mod Asked
+pub mod Loading

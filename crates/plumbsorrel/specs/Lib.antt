@@ -1,0 +1,4 @@
+pub mod Number
+pub mod Offers
+pub mod Image
+pub mod Record

@@ -1,0 +1,53 @@
+// Tick, bell and done.
+ghost use mathlib.Core.Path.{_≡_};
+ghost use mathlib.Core.List.{[]};
+ghost use Rattle.plumbsorrel.specs.Offers.{leaves, cTick, cBell, cDone};
+use crate::number;
+use crate::state;
+
+#[no_mangle]
+pub extern "C" fn plumbsorrel_tick(state: &mut [u16]) -> u64
+    ensures { λ r. ⌜ leaves r (now (state .exit)) [] [] ≡ cTick (now (state .entry)) ⌝ }
+{
+    let u = layout::unpack(state);
+    let known = u.known;
+    if !known {
+        return 7;
+    }
+    let m = u.machine;
+    state::put_back(run::tick(m), state)
+}
+
+#[no_mangle]
+pub extern "C" fn plumbsorrel_bell(state: &mut [u16]) -> u64
+    ensures { λ r. ⌜ leaves r (now (state .exit)) [] [] ≡ cBell (now (state .entry)) ⌝ }
+{
+    let u = layout::unpack(state);
+    let known = u.known;
+    if !known {
+        return 7;
+    }
+    let m = u.machine;
+    state::put_back(run::bell(m), state)
+}
+
+#[no_mangle]
+pub extern "C" fn plumbsorrel_done(
+    device: u16,
+    status: u16,
+    arg: u16,
+    common: &mut [u16],
+    private: &mut [u16],
+    state: &mut [u16],
+) -> u64
+    ensures { λ r. ⌜ leaves r (now (state .exit)) (now (common .exit)) (now (private .exit)) ≡ cDone device status arg (now (common .entry)) (now (private .entry)) (now (state .entry)) ⌝ }
+{
+    let u = layout::unpack(state);
+    let known = u.known;
+    if !known {
+        return number::of_no_machine(common.len(), private.len());
+    }
+    let m = u.machine;
+    let x = run::done(m, device, status, arg, common, private);
+    state::put_back(x, state)
+}
