@@ -1,0 +1,5 @@
+//! Offers made to the model and the library side by side.
+
+pub mod cases;
+pub mod session;
+pub mod world;
