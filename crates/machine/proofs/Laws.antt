@@ -1,5 +1,5 @@
 -- Why the code's tests are those of the definitions: what a list gives and takes past its end
-use mathlib.Core.Path.{_≡_, sym, ap, _∙_}
+use mathlib.Core.Path.{_≡_, refl, sym, ap, _∙_}
 use mathlib.Core.Bool.{Bool, true, false, _&&_}
 use mathlib.Core.List.{List}
 use Prim.Native.Nat.{ℕ, suc, _+_, _-_, _≤_, _<_}
@@ -9,7 +9,7 @@ use lib.ListN.{length, getD, set, List·getD-eq-default}
 use lib.Seq.{set-out}
 use borrow.Author.Tests.{ltb-true, lt-ltb, le-ltb, le-leb, lt-leb, eq-eqb, ne-eqb}
 use borrow.Author.Needs.{needs}
-use Rattle.notation.proofs.Upto.{split, both}
+use Rattle.notation.proofs.Upto.{both}
 use Rattle.machine.specs.declared.Machine.{Machine}
 use Rattle.machine.specs.State.{nobody, proc}
 use Rattle.machine.specs.Classes.{best, selects}
@@ -53,10 +53,19 @@ pub bell-over : (n i : ℕ) (m : Machine) → n ≤ i → bellWake (n - i) m ≡
 unfolding bellWake
 bell-over n i m l = let e : n - i ≡ 0 = omega (arith, l) in rw e
 
--- a selection takes a process of a class that is ready
-pub selects-best : (m : Machine) → selects m ≡ true → best m < 3
-unfolding selects
-selects-best m e =
-    split (leb nobody (m .running))
-    (λ t. ltb-true (best m) 3 (rw t at e))
-    (λ t. let f = rw t at e in ltb-true (best m) 3 (both (ltb (best m) ((proc m (m .running)) .class)) (ltb (best m) 3) f .1))
+-- ---- the selection over nobody, and over the process that runs; it takes a process of a class that is ready
+twice : (b : Bool) → (b && b) ≡ b
+twice true = refl
+twice false = refl
+
+module _ (m : Machine) (b : ℕ) (e : b ≡ best m) where
+  pub over-nobody : nobody ≤ m .running → (ltb b 3 && ltb b 3) ≡ selects m
+  unfolding selects
+  over-nobody l = rw (le-leb _ _ l, e, twice (ltb (best m) 3))
+
+  pub over-running : m .running < nobody → (ltb b ((proc m (m .running)) .class) && ltb b 3) ≡ selects m
+  unfolding selects
+  over-running l = rw (lt-leb _ _ l, e)
+
+pub is-ready : (b c : ℕ) → (ltb b c && ltb b 3) ≡ true → b < 3
+is-ready b c e = ltb-true b 3 (both (ltb b c) (ltb b 3) e .1)

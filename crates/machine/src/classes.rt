@@ -1,12 +1,12 @@
 // Ready processes by their classes, and the selection.
 ghost use mathlib.Core.Path.{_≡_};
-ghost use mathlib.Core.Bool.{true};
+ghost use mathlib.Core.Bool.{_&&_};
 ghost use Prim.Native.Nat.{_<_};
-ghost use lib.Dec.{leb};
-ghost use Rattle.notation.specs.If.{if};
-ghost use Rattle.machine.specs.State.{nobody, proc};
-ghost use Rattle.machine.specs.Classes.{setRunning, push, pull, wake, best, start, selects, select};
+ghost use lib.Dec.{ltb};
+ghost use Rattle.machine.specs.declared.Machine.{Machine};
+ghost use Rattle.machine.specs.Classes.{setRunning, push, wake, best, start, selects, select};
 use crate::Machine;
+use crate::Queue;
 
 impl Machine {
     // h runs, or nobody does.
@@ -15,18 +15,6 @@ impl Machine {
     {
         self.running = h;
         self
-    }
-
-    // The class of a process.
-    pub(crate) fn class_of(self, h: u8) -> u8
-        ensures { λ r. ⌜ r ≡ (proc self h) .class ⌝ }
-    {
-        if h < 10 {
-            let p = self.processes[h as usize];
-            p.class
-        } else {
-            0
-        }
     }
 
     // h joins the tail of class c.
@@ -41,86 +29,85 @@ impl Machine {
         self
     }
 
-    // The head of class c is taken off.
-    fn pull(mut self, c: u8) -> Machine
-        requires { ⌜ c < 3 ⌝ }
-        ensures { λ r. ⌜ r ≡ pull self c ⌝ }
-    {
-        let q = self.ready[c as usize];
-        let less = q.rest();
-        self.ready[c as usize] = less;
-        self
-    }
-
     // Woken processes and new holders join the tail of their class.
     pub(crate) fn wake(self, h: u8) -> Machine
         ensures { λ r. ⌜ r ≡ wake self h ⌝ }
     {
-        let c = self.class_of(h);
-        self.push(c, h)
-    }
-
-    // The best class that is ready, or 3.
-    pub(crate) fn best(self) -> u8
-        ensures { λ r. ⌜ r ≡ best self ⌝ }
-    {
-        let first = self.ready[0];
-        let second = self.ready[1];
-        let third = self.ready[2];
-        if 0 < first.len {
-            0
-        } else if 0 < second.len {
-            1
-        } else if 0 < third.len {
-            2
-        } else {
-            3
+        if 10 <= h {
+            return self.push(0, h);
         }
+        let p = self.processes[h as usize];
+        self.push(p.class, h)
     }
 
     // The head of class c runs.
-    fn start(self, c: u8) -> Machine
+    fn start(mut self, c: u8) -> Machine
         requires { ⌜ c < 3 ⌝ }
         ensures { λ r. ⌜ r ≡ start self c ⌝ }
     {
         let q = self.ready[c as usize];
         let h = q.at[0];
-        self.pull(c).set_running(h)
+        let less = q.rest();
+        self.ready[c as usize] = less;
+        self.running = h;
+        self
     }
 
     // Whether a selection takes a process now.
     pub fn selects(self) -> bool
         ensures { λ r. ⌜ r ≡ selects self ⌝ }
     {
-        let best = self.best();
+        let best = best_of(self.ready);
         let i = self.running;
         if 10 <= i {
-            best < 3
-        } else {
-            let class = self.class_of(i);
-            (best < class) & (best < 3)
+            return displaces(best, 3);
         }
+        let p = self.processes[i as usize];
+        displaces(best, p.class)
     }
 
     // A strictly better class that is ready displaces the running process.
     pub fn select(self) -> Machine
         ensures { λ r. ⌜ r ≡ select self ⌝ }
     {
-        let now = self.selects();
-        if now { self.take() } else { self }
-    }
-
-    // Who runs goes to the tail of its class, and the head of the best class runs.
-    fn take(self) -> Machine
-        requires { ⌜ selects self ≡ true ⌝ }
-        ensures { λ r. ⌜ r ≡ if (leb nobody (self .running)) (start self (best self)) (start (wake (setRunning self nobody) (self .running)) (best self)) ⌝ }
-    {
-        let best = self.best();
+        let best = best_of(self.ready);
         let i = self.running;
         if 10 <= i {
-            self.start(best)
+            let now = displaces(best, 3);
+            if now { self.start(best) } else { self }
         } else {
-            self.set_running(10).wake(i).start(best)
+            let p = self.processes[i as usize];
+            let now = displaces(best, p.class);
+            if now {
+                self.set_running(10).wake(i).start(best)
+            } else {
+                self
+            }
         }
     }
+}
+
+// The best class that is ready, or 3.
+pub(crate) fn best_of(queues: [Queue; 3]) -> u8
+    ensures { λ r. ⌜ ((m : Machine) → m .ready ≡ queues → r ≡ best m) ⌝ }
+{
+    let first = queues[0];
+    let second = queues[1];
+    let third = queues[2];
+    if 0 < first.len {
+        0
+    } else if 0 < second.len {
+        1
+    } else if 0 < third.len {
+        2
+    } else {
+        3
+    }
+}
+
+// Whether the best class that is ready comes before a process of a class, or before nobody: 3.
+fn displaces(best: u8, class: u8) -> bool
+    ensures { λ r. ⌜ r ≡ (ltb best class && ltb best 3) ⌝ }
+{
+    (best < class) & (best < 3)
 }

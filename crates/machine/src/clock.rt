@@ -1,9 +1,11 @@
 // The clock and the bell: who waits for them, how they wake, and the slice.
 ghost use mathlib.Core.Path.{_≡_};
+ghost use Prim.Native.Nat.{_<_};
 ghost use Rattle.machine.specs.State.{proc, timed};
 ghost use Rattle.machine.specs.Clock.{clockWait, bellWait, clockOne, clockWake, bellOne, bellWake, nextSecond, timePasses, fallen, sliced, yields, slicePasses, tick, bell};
 use crate::Machine;
 use crate::Process;
+use crate::classes::best_of;
 
 impl Process {
     fn sliced(mut self, slice: u8, class: u8) -> Process
@@ -119,11 +121,12 @@ impl Machine {
 
     // The process goes to the tail if one of its class or better is ready.
     fn yields(self, h: u8) -> Machine
+        requires { ⌜ h < 10 ⌝ }
         ensures { λ r. ⌜ r ≡ yields self h ⌝ }
     {
-        let best = self.best();
-        let class = self.class_of(h);
-        if best <= class {
+        let best = best_of(self.ready);
+        let p = self.processes[h as usize];
+        if best <= p.class {
             self.set_running(10).wake(h)
         } else {
             self

@@ -1,5 +1,5 @@
 use borrow.Author.Needs.{needs}
-use Rattle.machine.specs.Classes.{start}
+use Rattle.machine.specs.Classes.{pull, setRunning, start}
 use Rattle.machine.proofs.Machine.start.Statement.{statement}
 use Rattle.machine.proofs.Machine.start.Tie as tie
 
@@ -12,16 +12,19 @@ element-copy-out-q c = search needs
 element-copy-out-h : tie.Need-element-copy-out-h
 element-copy-out-h c = search needs
 
-pull-requires : tie.Need-pull-requires
-pull-requires c κs = search needs
+rest-requires : tie.Need-rest-requires
+rest-requires c κs = search needs
 
-set-running-requires : tie.Need-set-running-requires
-set-running-requires c κs = search needs
+mul-less : tie.Need-mul-less
+mul-less c = search needs
+
+element-set-from-less : tie.Need-element-set-from-less
+element-set-from-less c = search needs
 
 returns : tie.Need-returns
-unfolding start
+unfolding start pull setRunning
 returns c =
-    rw (c .set-running .ensures, c .before .pull .ensures)
+    rw (c .rest .ensures)
 
 pub start-spec : {M : Type 1} → statement M
 start-spec =
@@ -30,6 +33,7 @@ start-spec =
     mul-q
     element-copy-out-q
     element-copy-out-h
-    pull-requires
-    set-running-requires
+    rest-requires
+    mul-less
+    element-set-from-less
     returns)
