@@ -1,14 +1,15 @@
 -- KTRAP k by its number, and the done event: why the code's tests are those of the definitions
-use mathlib.Core.Path.{_≡_, refl, sym, _∙_}
+use mathlib.Core.Path.{_≡_, refl, sym, ap, _∙_}
 use mathlib.Core.Bool.{Bool, true, false, _&&_, and-false}
 use mathlib.Core.List.{List}
 use Prim.Native.Nat.{ℕ, _+_, _≤_, _<_}
 use native.Mathlib.Omega.{arith}
-use lib.Dec.{ltb, eqb}
+use lib.Dec.{leb, ltb, eqb}
 use lib.ListN.{length}
-use borrow.Author.Tests.{ltb-true, eqb-true, ne-eqb}
+use borrow.Author.Tests.{ltb-true, eqb-true, lt-ltb, le-ltb, ne-eqb}
 use Rattle.notation.proofs.Upto.{both, NoneOf, none-past}
 use Rattle.machine.specs.declared.Regs.{Regs}
+use Rattle.machine.specs.declared.Process.{Process}
 use Rattle.machine.specs.declared.Device.{Device}
 use Rattle.machine.specs.declared.Machine.{Machine}
 use Rattle.machine.specs.State.{nobody, proc, device}
@@ -19,7 +20,8 @@ use Rattle.machine.specs.Call.{kernel}
 use Rattle.machine.specs.Offer.{storesFit}
 use Rattle.promises.proofs.Runs.{part, at-most}
 use Rattle.kernel.specs.declared.answer.End.the-variants.{Stops, Unfit}
-use Rattle.kernel.specs.Did.{world, done, outcome, Ready, ready, traps, ends}
+use Rattle.kernel.specs.declared.caller.Caller.{Caller}
+use Rattle.kernel.specs.Did.{world, done, outcome, Ready, callerOf, ready, traps, ends}
 use Rattle.kernel.proofs.Records.{whole-high}
 
 -- ---- past all numbers there is no call
@@ -44,6 +46,20 @@ ready-of m e =
       near = at-most (r .address) 16256 e (λ t. simp (t, and-false));
     }
 
+-- where somebody runs, the tests of the caller tell
+pub ready-caller : (m : Machine) (who : Caller) (able : Bool) → m .running < 10 → who ≡ callerOf m
+    → able ≡ (leb 1 (who .created) && leb (who .made) 25 && leb 2048 (who .process .regs .s) && leb (who .process .regs .s) (who .process .regs .b) && leb (who .process .regs .b) 4096 && leb (who .process .regs .address) 16256)
+    → able ≡ ready m
+ready-caller m who able l e f = rw (f, e, lt-ltb (m .running) 10 l)
+
+-- the caller as the door tells of it, its process read from the processes alone
+abbrev told : Machine → Process → Caller
+told m p =
+    record { number = m .running; process = p; seconds = m .seconds; created = m .created; made = m .made; length = m .length; present = m .present }
+
+pub told-of : (m : Machine) (p : Process) → p ≡ proc m (m .running) → told m p ≡ callerOf m
+told-of m p e = ap (told m) e
+
 pub record Fit (m : Machine) (c q : List ℕ) : Type 0 where
   pub ready : Ready m
   pub common : length c ≡ 2048
@@ -63,6 +79,10 @@ module _ (m : Machine) (c q : List ℕ) (able : Bool) (e : able ≡ ready m) whe
   pub trap-unfit : (k : ℕ) → eqb (length c) 2048 && eqb (length q) 20480 && able ≡ false → record { machine = m; common = c; private = q; end = Unfit } ≡ traps (world m c q) k
   unfolding traps
   trap-unfit k t = let f : storesFit c q && ready m ≡ false = rw e at t in rw f
+
+-- where nobody runs, no call begins
+pub trap-nobody : (m : Machine) (c q : List ℕ) (k : ℕ) → 10 ≤ m .running → record { machine = m; common = c; private = q; end = Unfit } ≡ traps (world m c q) k
+trap-nobody m c q k l = trap-unfit m c q (ready m) refl k (rw (le-ltb (m .running) 10 l) (and-false (storesFit c q)))
 
 -- ---- the done event
 module _ (m : Machine) (d status arg : ℕ) (x : Device) (c q : List ℕ) (e : device m d ≡ x) where

@@ -22,7 +22,8 @@ use Rattle.machine.specs.Call.{stackWord, passed, call0, call1, call2, finish, 
 use Rattle.promises.proofs.Fixed.{set-keeps, fixed-make}
 use Rattle.kernel.specs.declared.answer.Answer.{Answer}
 use Rattle.kernel.specs.declared.answer.End.the-variants.{On, Stops}
-use Rattle.kernel.specs.Did.{Ready, world, done, outcome}
+use Rattle.kernel.specs.declared.caller.Caller.{Caller}
+use Rattle.kernel.specs.Did.{Ready, callerOf, world, done, outcome}
 
 pub ruleset cases = (needs, lt-ltb, le-ltb, le-leb, lt-leb, eq-eqb, ne-eqb)
 
@@ -31,26 +32,46 @@ abbrev pub regs : Machine → Regs
 regs m = (proc m (m .running)) .regs
 
 -- k words are there
-pub record Words (r : Regs) (k : ℕ) : Type 0 where
-  pub low : 2048 ≤ r .s
-  pub words : r .s + k ≤ r .b
-  pub high : r .b ≤ 4096
-
-pub words-there : (m : Machine) (r : Regs) (k : ℕ) (x : Bool) → Ready m → r ≡ regs m → x ≡ leb (r .s + k) (r .b) → x ≡ true → Words r k
-words-there m r k x ok e f t =
-    record {
-      low = rw e (ok .low);
-      words = leb-true (r .s + k) (r .b) (sym f ∙ t);
-      high = rw e (ok .high);
-    }
-
--- the test of the words as the definitions have it
-pub has-words : (m : Machine) (r : Regs) (k : ℕ) (x y : Bool) → r ≡ regs m → x ≡ leb (r .s + k) (r .b) → x ≡ y → leb (regs m .s + k) (regs m .b) ≡ y
-has-words m r k x y e f t = rw e at (sym f ∙ t)
+pub record Words (who : Caller) (k : ℕ) : Type 0 where
+  pub runs : who .number < 10
+  pub low : 2048 ≤ who .process .regs .s
+  pub words : who .process .regs .s + k ≤ who .process .regs .b
+  pub high : who .process .regs .b ≤ 4096
 
 -- a word more has room
-pub room-there : (m : Machine) (x : Bool) → x ≡ leb (2048 + (proc m (m .running)) .variables + 1) (regs m .s) → x ≡ true → 2048 + (proc m (m .running)) .variables + 1 ≤ regs m .s
-room-there m x f t = leb-true (2048 + (proc m (m .running)) .variables + 1) (regs m .s) (sym f ∙ t)
+pub record Room (who : Caller) : Type 0 where
+  pub runs : who .number < 10
+  pub room : 2048 + who .process .variables + 1 ≤ who .process .regs .s
+  pub high : who .process .regs .s ≤ 4096
+
+-- ---- a call is told of its caller as it is in the machine
+module _ (m : Machine) (who : Caller) where
+  pub words-there : (k : ℕ) (x : Bool) → Ready m → who ≡ callerOf m → x ≡ leb (who .process .regs .s + k) (who .process .regs .b) → x ≡ true → Words who k
+  words-there k x ok e f t =
+      record {
+        runs = rw e (ok .runs);
+        low = rw e (ok .low);
+        words = leb-true (who .process .regs .s + k) (who .process .regs .b) (sym f ∙ t);
+        high = rw e (ok .high);
+      }
+
+  pub room-there : (x : Bool) → Ready m → who ≡ callerOf m → x ≡ leb (2048 + who .process .variables + 1) (who .process .regs .s) → x ≡ true → Room who
+  room-there x ok e f t =
+      record {
+        runs = rw e (ok .runs);
+        room = leb-true (2048 + who .process .variables + 1) (who .process .regs .s) (sym f ∙ t);
+        high = rw e (omega (arith, ok .framed, ok .high));
+      }
+
+  -- the tests as the definitions have them
+  pub has-words : (k : ℕ) (x y : Bool) → who ≡ callerOf m → x ≡ leb (who .process .regs .s + k) (who .process .regs .b) → x ≡ y → leb (regs m .s + k) (regs m .b) ≡ y
+  has-words k x y e f t = rw e at (sym f ∙ t)
+
+  pub has-room : (x y : Bool) → who ≡ callerOf m → x ≡ leb (2048 + who .process .variables + 1) (who .process .regs .s) → x ≡ y → leb (2048 + (proc m (m .running)) .variables + 1) (regs m .s) ≡ y
+  has-room x y e f t = rw e at (sym f ∙ t)
+
+  pub told-present : who ≡ callerOf m → m .present ≡ who .present
+  told-present e = rw e
 
 -- ---- a word as a number of a gate or a cell
 abbrev pub narrow : ℕ → ℕ

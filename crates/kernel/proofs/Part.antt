@@ -11,13 +11,13 @@ use borrow.Author.Tests.{lt-leb, ltb-false, leb-false, eqb-true, not-false}
 use Rattle.notation.specs.If.{if}
 use Rattle.notation.specs.Upto.{listFrom, listTo}
 use Rattle.notation.proofs.Upto.{length-list, list-same, list-append, neither}
-use Rattle.machine.specs.declared.Regs.{Regs}
 use Rattle.machine.specs.declared.Machine.{Machine}
 use Rattle.machine.specs.Store.{World, own}
 use Rattle.machine.specs.Call.{Called, on, stops, hasWords, passed, popped, newPart, createProcess, call3}
 use Rattle.machine.specs.View.{cleared}
 use Rattle.kernel.specs.Part.{partWith}
-use Rattle.kernel.specs.Did.{world}
+use Rattle.kernel.specs.declared.caller.Caller.{Caller}
+use Rattle.kernel.specs.Did.{callerOf, world}
 use Rattle.kernel.proofs.Laws.{regs, has-words}
 
 -- ---- a list whose words from a place on are anew
@@ -85,13 +85,13 @@ pub record Three (m : Machine) (q : List ℕ) (t v p : ℕ) : Type 0 where
   pub second : v ≡ getD q (own (m .running) (regs m .s + 1)) 0
   pub third : p ≡ getD q (own (m .running) (regs m .s + 2)) 0
 
-pub three : (m : Machine) (q : List ℕ) (r : Regs) (x : Bool) (t v p : ℕ)
-    → r ≡ regs m
-    → (x ≡ leb (r .s + 3) (r .b)) × (not x ≡ false)
-    → (t ≡ getD q (own (m .running) (r .s + 0)) 0) × (v ≡ getD q (own (m .running) (r .s + 1)) 0) × (p ≡ getD q (own (m .running) (r .s + 2)) 0)
+pub three : (m : Machine) (q : List ℕ) (who : Caller) (x : Bool) (t v p : ℕ)
+    → who ≡ callerOf m
+    → (x ≡ leb (who .process .regs .s + 3) (who .process .regs .b)) × (not x ≡ false)
+    → (t ≡ getD q (own (who .number) (who .process .regs .s + 0)) 0) × (v ≡ getD q (own (who .number) (who .process .regs .s + 1)) 0) × (p ≡ getD q (own (who .number) (who .process .regs .s + 2)) 0)
     → Three m q t v p
-three m q r x t v p e (f, n) (a, b, d) =
-    record { words = has-words m r 3 x true e f (not-false x n); first = rw e at a; second = rw e at b; third = rw e at d }
+three m q who x t v p e (f, n) (a, b, d) =
+    record { words = has-words m who 3 x true e f (not-false x n); first = rw e at a; second = rw e at b; third = rw e at d }
 
 -- what is tested after they are there
 abbrev tested : World → ℕ → ℕ → ℕ → Called
@@ -119,15 +119,17 @@ by-0 i n e =
     (eqb-true i 0 (not-false (eqb i 0) (f .0)), leb-false 10 n (f .1))
 
 -- where all hold, the caller has gone on, and the child's part is made
-pub call3-made : (m : Machine) (c q : List ℕ) (r : Regs) {t v p : ℕ}
+pub call3-made : (m : Machine) (c q : List ℕ) (who : Caller) {t v p : ℕ}
     → Three m q t v p
-    → r ≡ regs m
-    → not (eqb (m .running) 0) || leb 10 (m .created) ≡ false
+    → who ≡ callerOf m
+    → not (eqb (who .number) 0) || leb 10 (who .created) ≡ false
     → ltb 1024 v || ltb v p ≡ false
     → leb (regs m .s + (3 + p)) (regs m .b) ≡ true
-    → t < m .length
-    → on (record { machine = createProcess (passed m (r .s + (3 + p))) t v; common = c; private = childIn q (2048 * m .created) (r .s) p })
+    → t < who .length
+    → on (record { machine = createProcess (passed m (who .process .regs .s + (3 + p))) t v; common = c; private = childIn q (2048 * who .created) (who .process .regs .s) p })
     ≡ call3 (world m c q)
 unfolding newPart
-call3-made m c q r {t} h e limit range more code =
-    rw (call3-tested m c q h, limit, range, more, lt-leb (m .length) t code, e, by-0 (m .running) (m .created) limit .0)
+call3-made m c q who {t} h e limit range more code =
+    let few : not (eqb (m .running) 0) || leb 10 (m .created) ≡ false = rw e at limit in
+    let known : t < m .length = rw e at code in
+    rw (call3-tested m c q h, few, range, more, lt-leb (m .length) t known, e, by-0 (m .running) (m .created) few .0)

@@ -8,7 +8,6 @@ use lib.Dec.{ltb, leb, eqb}
 use lib.ListN.{length, getD, take, drop}
 use borrow.Author.Tests.{leb-true, ltb-true, eqb-true, lt-ltb, le-ltb, not-false}
 use Rattle.notation.proofs.Upto.{split, both}
-use Rattle.machine.specs.declared.Regs.{Regs}
 use Rattle.machine.specs.declared.Device.{Device}
 use Rattle.machine.specs.declared.Machine.{Machine}
 use Rattle.machine.specs.State.{device}
@@ -17,7 +16,8 @@ use Rattle.machine.specs.Clock.{bellWait}
 use Rattle.machine.specs.Device.{isPresent, isBusy, deviceStart, recordOf}
 use Rattle.machine.specs.Call.{on, starts, stops, passed, ioBegins, call11}
 use Rattle.machine.specs.Offer.{storesFit}
-use Rattle.kernel.specs.Did.{world, handedBack}
+use Rattle.kernel.specs.declared.caller.Caller.{Caller}
+use Rattle.kernel.specs.Did.{callerOf, world, handedBack}
 use Rattle.kernel.proofs.Laws.{regs, has-words}
 
 -- ---- four words that lie whole in one store end within it
@@ -34,27 +34,27 @@ pub whole-low : (a : ℕ) → whole a ≡ true → a < 2048 → a ≤ 2044
 whole-low a h b = whole-cases a h (λ l. l) (λ l k. absurd (omega (arith, l, b)))
 
 -- ---- how call 11 begins, as the code does it
-module _ (m : Machine) (c q : List ℕ) (r : Regs) (d operation a : ℕ) where
+module _ (m : Machine) (c q : List ℕ) (who : Caller) (d operation a : ℕ) where
   -- a machine with the status in the caller's record
   abbrev pub reported : Machine → ℕ → World
   reported next status =
-      record { machine = next; common = commonWith (placeOf (a + 1)) status c; private = privateWith (placeOf (a + 1)) (m .running) status q }
+      record { machine = next; common = commonWith (placeOf (a + 1)) status c; private = privateWith (placeOf (a + 1)) (who .number) status q }
 
-  module _ (e : r ≡ regs m) (f : a ≡ getD q (own (m .running) (regs m .s + 0)) 0) where
+  module _ (e : who ≡ callerOf m) (f : a ≡ getD q (own (m .running) (regs m .s + 0)) 0) where
     pub begins-bell : eqb d 0 && eqb operation 3 && isPresent m 0 ≡ true
-        → on (reported (bellWait (passed m (r .s + 2))) 0) ≡ ioBegins (world m c q) d operation
+        → on (reported (bellWait (passed m (who .process .regs .s + 2))) 0) ≡ ioBegins (world m c q) d operation
     unfolding ioBegins
     begins-bell t = rw (t, ← f, e)
 
     pub begins-refused : eqb d 0 && eqb operation 3 && isPresent m 0 ≡ false
         → not (isPresent m d) || isBusy m d ≡ true
-        → on (reported (passed m (r .s + 2)) 3) ≡ ioBegins (world m c q) d operation
+        → on (reported (passed m (who .process .regs .s + 2)) 3) ≡ ioBegins (world m c q) d operation
     unfolding ioBegins
     begins-refused t g = rw (t, g, ← f, e)
 
     pub begins-device : eqb d 0 && eqb operation 3 && isPresent m 0 ≡ false
         → not (isPresent m d) || isBusy m d ≡ false
-        → starts d (reported (deviceStart (passed m (r .s + 2)) d operation a) 0) ≡ ioBegins (world m c q) d operation
+        → starts d (reported (deviceStart (passed m (who .process .regs .s + 2)) d operation a) 0) ≡ ioBegins (world m c q) d operation
     unfolding ioBegins
     begins-device t g = rw (t, g, ← f, e)
 
@@ -65,13 +65,13 @@ pub record Two (m : Machine) (q : List ℕ) (a d : ℕ) : Type 0 where
   pub first : a ≡ getD q (own (m .running) (regs m .s + 0)) 0
   pub second : d ≡ getD q (own (m .running) (regs m .s + 1)) 0
 
-pub two : (m : Machine) (q : List ℕ) (r : Regs) (x : Bool) (a d : ℕ)
-    → r ≡ regs m
-    → (x ≡ leb (r .s + 2) (r .b)) × (not x ≡ false)
-    → (a ≡ getD q (own (m .running) (r .s + 0)) 0) × (d ≡ getD q (own (m .running) (r .s + 1)) 0)
+pub two : (m : Machine) (q : List ℕ) (who : Caller) (x : Bool) (a d : ℕ)
+    → who ≡ callerOf m
+    → (x ≡ leb (who .process .regs .s + 2) (who .process .regs .b)) × (not x ≡ false)
+    → (a ≡ getD q (own (who .number) (who .process .regs .s + 0)) 0) × (d ≡ getD q (own (who .number) (who .process .regs .s + 1)) 0)
     → Two m q a d
-two m q r x a d e (f, n) (g, h) =
-    record { words = has-words m r 2 x true e f (not-false x n); first = rw e at g; second = rw e at h }
+two m q who x a d e (f, n) (g, h) =
+    record { words = has-words m who 2 x true e f (not-false x n); first = rw e at g; second = rw e at h }
 
 module _ (m : Machine) (c q : List ℕ) (a d : ℕ) (w : Two m q a d) where
   pub apart : whole a ≡ false → stops 2 ≡ call11 (world m c q)

@@ -17,6 +17,7 @@ use Rattle.machine.specs.Offer.{storesFit}
 use Rattle.kernel.specs.declared.answer.End.{End}
 use Rattle.kernel.specs.declared.answer.End.the-variants.{On, Starts, Stops, Unfit}
 use Rattle.kernel.specs.declared.answer.Answer.{Answer}
+use Rattle.kernel.specs.declared.caller.Caller.{Caller}
 
 -- a machine with its stores
 abbrev pub world : Machine → List ℕ → List ℕ → World
@@ -57,6 +58,19 @@ pub record Ready (m : Machine) : Type 0 where
   pub framed : (proc m (m .running)) .regs .s ≤ (proc m (m .running)) .regs .b
   pub high : (proc m (m .running)) .regs .b ≤ 4096
   pub near : (proc m (m .running)) .regs .address ≤ 16256
+
+-- the caller, as a call is told of it
+abbrev pub callerOf : Machine → Caller
+callerOf m =
+    record {
+      number = m .running;
+      process = proc m (m .running);
+      seconds = m .seconds;
+      created = m .created;
+      made = m .made;
+      length = m .length;
+      present = m .present;
+    }
 
 abbrev pub ready : Machine → Bool
 ready m =

@@ -1,14 +1,35 @@
-// The caller: its registers, its stack's words, and how it goes on past KTRAP.
+// The caller: what a call is told of it, its stack's words, and how it goes on past KTRAP.
 ghost use mathlib.Core.Path.{_≡_};
 ghost use Prim.Native.Nat.{_+_, _*_, _-_, _<_, _≤_};
 ghost use lib.Dec.{leb};
 ghost use lib.ListN.{length, getD, set};
-ghost use Rattle.machine.specs.State.{proc};
+ghost use Rattle.machine.specs.State.{noProcess};
 ghost use Rattle.machine.specs.Store.{own};
 ghost use Rattle.machine.specs.Call.{passed};
-ghost use Rattle.kernel.specs.Did.{Ready};
+ghost use Rattle.kernel.specs.Did.{Ready, callerOf};
 use machine::Machine;
+use machine::Process;
 use machine::Regs;
+
+// What a call is told of the machine: the caller's number and record, and the fields that are no arrays. It is read once, at
+// the door: each reading of a machine that is given by value keeps a copy of it.
+pub struct Caller {
+    pub number: u8,
+    pub process: Process,
+    pub seconds: u16,
+    pub created: u8,
+    pub made: u8,
+    pub length: u16,
+    pub present: u16,
+}
+
+// A process of its number, from the processes alone: indexed in place, the whole machine would be copied.
+pub(crate) fn process_of(processes: [Process; 10], i: u8) -> Process
+    requires { ⌜ i < 10 ⌝ }
+    ensures { λ r. ⌜ r ≡ getD processes i noProcess ⌝ }
+{
+    processes[i as usize]
+}
 
 pub(crate) fn wide(x: u16) -> usize
     ensures { λ r. ⌜ (r ≡ x) × (r < 65536) ⌝ }
@@ -20,16 +41,6 @@ pub(crate) fn wide_byte(x: u8) -> usize
     ensures { λ r. ⌜ (r ≡ x) × (r < 256) ⌝ }
 {
     x as usize
-}
-
-// The caller's registers.
-pub(crate) fn regs_of(m: Machine) -> Regs
-    requires { ⌜ m .running < 10 ⌝ }
-    ensures { λ r. ⌜ r ≡ (proc m (m .running)) .regs ⌝ }
-{
-    let i = m.running;
-    let p = m.processes[i as usize];
-    p.regs
 }
 
 // Whether the stack has k words: S to B - 1 count.
@@ -68,39 +79,25 @@ pub(crate) fn put(i: u8, a: u16, x: u16, private: &mut [u16])
 }
 
 // The caller has gone past KTRAP, with S at s.
-pub(crate) fn passed(mut m: Machine, s: u16) -> Machine
-    requires { ⌜ (m .running < 10) × ((proc m (m .running)) .regs .address ≤ 16256) ⌝ }
+pub(crate) fn passed(mut m: Machine, who: Caller, s: u16) -> Machine
+    requires { ⌜ Ready m × (who ≡ callerOf m) ⌝ }
     ensures { λ r. ⌜ r ≡ passed m s ⌝ }
 {
-    let i = m.running;
-    let mut p = m.processes[i as usize];
+    let mut p = who.process;
     let mut r = p.regs;
     r.address = r.address + 2;
     r.s = s;
     p.regs = r;
-    m.processes[i as usize] = p;
+    m.processes[who.number as usize] = p;
     m
 }
 
 // Whether one more word has room above the floor L.
-pub(crate) fn has_room(m: Machine) -> bool
-    requires { ⌜ m .running < 10 ⌝ }
-    ensures { λ x. ⌜ x ≡ leb (2048 + (proc m (m .running)) .variables + 1) ((proc m (m .running)) .regs .s) ⌝ }
+pub(crate) fn has_room(p: Process) -> bool
+    ensures { λ x. ⌜ x ≡ leb (2048 + p .variables + 1) (p .regs .s) ⌝ }
 {
-    let i = m.running;
-    let p = m.processes[i as usize];
     let r = p.regs;
     let least = 2048 + wide(p.variables) + 1;
     let s = wide(r.s);
     least <= s
-}
-
-// How many gates the caller holds.
-pub(crate) fn holds_of(m: Machine) -> u8
-    requires { ⌜ m .running < 10 ⌝ }
-    ensures { λ r. ⌜ r ≡ (proc m (m .running)) .holds ⌝ }
-{
-    let i = m.running;
-    let p = m.processes[i as usize];
-    p.holds
 }

@@ -7,14 +7,14 @@ ghost use Rattle.notation.specs.Upto.{listTo};
 ghost use Rattle.machine.specs.Store.{own};
 ghost use Rattle.machine.specs.View.{cleared};
 ghost use Rattle.machine.specs.Call.{call3};
-ghost use Rattle.kernel.specs.Did.{OnPrivate, Ready};
+ghost use Rattle.kernel.specs.Did.{OnPrivate, Ready, callerOf};
 ghost use Rattle.kernel.specs.Part.{partWith};
 use crate::answer::Answer;
 use crate::answer::goes;
 use crate::answer::stops;
+use crate::caller::Caller;
 use crate::caller::has_words;
 use crate::caller::passed;
-use crate::caller::regs_of;
 use crate::caller::stack_word;
 use crate::caller::wide;
 use crate::caller::wide_byte;
@@ -53,12 +53,13 @@ fn new_part(child: u8, s: u16, p: u16, private: &mut [u16])
 }
 
 // 3 new process: pop t, v, p, then p words.
-pub(crate) fn call3(m: Machine, private: &mut [u16]) -> Answer
-    requires { ⌜ Ready m × (length (now private) ≡ 20480) ⌝ }
+pub(crate) fn call3(m: Machine, who: Caller, private: &mut [u16]) -> Answer
+    requires { ⌜ Ready m × (who ≡ callerOf m) × (length (now private) ≡ 20480) ⌝ }
     ensures { λ x. ⌜ OnPrivate x m (now (private .entry)) (now (private .exit)) call3 ⌝ }
 {
-    let i = m.running;
-    let r = regs_of(m);
+    let i = who.number;
+    let process = who.process;
+    let r = process.regs;
     let words = has_words(r, 3);
     if !words {
         return stops(m, fault::CODE);
@@ -66,7 +67,7 @@ pub(crate) fn call3(m: Machine, private: &mut [u16]) -> Answer
     let t = stack_word(i, r, 0, private);
     let v = stack_word(i, r, 1, private);
     let p = stack_word(i, r, 2, private);
-    let limit = !(m.running == 0) | (10 <= m.created);
+    let limit = !(who.number == 0) | (10 <= who.created);
     if limit {
         return stops(m, fault::LIMIT);
     }
@@ -78,9 +79,9 @@ pub(crate) fn call3(m: Machine, private: &mut [u16]) -> Answer
     if !all {
         return stops(m, fault::CODE);
     }
-    if m.length <= t {
+    if who.length <= t {
         return stops(m, fault::CODE);
     }
-    new_part(m.created, r.s, p, private);
-    goes(passed(m, r.s + (3 + p)).create_process(t, v))
+    new_part(who.created, r.s, p, private);
+    goes(passed(m, who, r.s + (3 + p)).create_process(t, v))
 }

@@ -5,19 +5,20 @@ ghost use mathlib.Core.List.{[]};
 ghost use Prim.Native.Nat.{_+_, _≤_, _<_};
 ghost use lib.Dec.{eqb, leb};
 ghost use lib.ListN.{length};
+ghost use Rattle.machine.specs.declared.Machine.{Machine};
 ghost use Rattle.machine.specs.State.{proc};
 ghost use Rattle.machine.specs.Store.{whole, placeOf, wordIn, commonWith, privateWith};
 ghost use Rattle.machine.specs.Device.{isPresent, isBusy};
 ghost use Rattle.machine.specs.Call.{stackWord, ioBegins, call11};
-ghost use Rattle.kernel.specs.Did.{world, OnStores, Ready, handedBack};
+ghost use Rattle.kernel.specs.Did.{world, OnStores, Ready, callerOf, handedBack};
 use crate::answer::Answer;
 use crate::answer::End;
 use crate::answer::goes;
 use crate::answer::stops;
+use crate::caller::Caller;
 use crate::caller::has_words;
 use crate::caller::own;
 use crate::caller::passed;
-use crate::caller::regs_of;
 use crate::caller::stack_word;
 use crate::caller::wide;
 use machine::Machine;
@@ -59,36 +60,35 @@ pub(crate) fn store(i: u8, a: u16, x: u16, common: &mut [u16], private: &mut [u1
 }
 
 // Whether device d, 0 to 4, is present: bits 0 to 4.
-fn is_present(m: Machine, d: u16) -> bool
+fn is_present(present: u16, d: u16) -> bool
     requires { ⌜ d ≤ 4 ⌝ }
-    ensures { λ r. ⌜ r ≡ isPresent m d ⌝ }
+    ensures { λ r. ⌜ ((m : Machine) → m .present ≡ present → r ≡ isPresent m d) ⌝ }
 {
-    let x = m.present;
     match d {
-        0 => x % 2 == 1,
-        1 => x / 2 % 2 == 1,
-        2 => x / 4 % 2 == 1,
-        3 => x / 8 % 2 == 1,
-        _ => x / 16 % 2 == 1,
+        0 => present % 2 == 1,
+        1 => present / 2 % 2 == 1,
+        2 => present / 4 % 2 == 1,
+        3 => present / 8 % 2 == 1,
+        _ => present / 16 % 2 == 1,
     }
 }
 
 // Control (3) on device 0, if present, busy or not.
-fn is_for_bell(m: Machine, d: u16, operation: u16) -> bool
-    ensures { λ r. ⌜ r ≡ (eqb d 0 && eqb operation 3 && isPresent m 0) ⌝ }
+fn is_for_bell(present: u16, d: u16, operation: u16) -> bool
+    ensures { λ r. ⌜ ((m : Machine) → m .present ≡ present → r ≡ (eqb d 0 && eqb operation 3 && isPresent m 0)) ⌝ }
 {
-    let present = is_present(m, 0);
-    (d == 0) & (operation == 3) & present
+    let there = is_present(present, 0);
+    (d == 0) & (operation == 3) & there
 }
 
 // Absent or busy.
-fn is_refused(m: Machine, d: u16) -> bool
-    requires { ⌜ d ≤ 4 ⌝ }
+fn is_refused(m: Machine, present: u16, d: u16) -> bool
+    requires { ⌜ (d ≤ 4) × (m .present ≡ present) ⌝ }
     ensures { λ r. ⌜ r ≡ (not (isPresent m d) || isBusy m d) ⌝ }
 {
-    let present = is_present(m, d);
+    let there = is_present(present, d);
     let busy = is_busy(m, d);
-    !present | busy
+    !there | busy
 }
 
 fn is_busy(m: Machine, d: u16) -> bool
@@ -102,24 +102,26 @@ fn is_busy(m: Machine, d: u16) -> bool
 // The caller waits for the bell, goes on, or waits for the device; the status stands in its record.
 fn begin(
     m: Machine,
+    who: Caller,
     d: u16,
     operation: u16,
     a: u16,
     common: &mut [u16],
     private: &mut [u16],
 ) -> Answer
-    requires { ⌜ Ready m × (leb ((proc m (m .running)) .regs .s + 2) ((proc m (m .running)) .regs .b) ≡ true) × (d ≤ 4) × (operation ≤ 3) × (a ≤ 4092) × (a ≡ stackWord (world m [] (now private)) 0) × (length (now common) ≡ 2048) × (length (now private) ≡ 20480) ⌝ }
+    requires { ⌜ Ready m × (who ≡ callerOf m) × (leb ((proc m (m .running)) .regs .s + 2) ((proc m (m .running)) .regs .b) ≡ true) × (d ≤ 4) × (operation ≤ 3) × (a ≤ 4092) × (a ≡ stackWord (world m [] (now private)) 0) × (length (now common) ≡ 2048) × (length (now private) ≡ 20480) ⌝ }
     ensures { λ x. ⌜ OnStores x m (now (common .entry)) (now (common .exit)) (now (private .entry)) (now (private .exit)) (λ w. ioBegins w d operation) ⌝ }
 {
-    let i = m.running;
-    let r = regs_of(m);
-    let next = passed(m, r.s + 2);
-    let bell = is_for_bell(m, d, operation);
+    let i = who.number;
+    let process = who.process;
+    let r = process.regs;
+    let next = passed(m, who, r.s + 2);
+    let bell = is_for_bell(who.present, d, operation);
     if bell {
         store(i, a + 1, 0, common, private);
         return goes(next.bell_wait());
     }
-    let refused = is_refused(m, d);
+    let refused = is_refused(m, who.present, d);
     if refused {
         store(i, a + 1, 3, common, private);
         return goes(next);
@@ -133,12 +135,13 @@ fn begin(
 }
 
 // 11 I/O: pop record address, device.
-pub(crate) fn call11(m: Machine, common: &mut [u16], private: &mut [u16]) -> Answer
-    requires { ⌜ Ready m × (length (now common) ≡ 2048) × (length (now private) ≡ 20480) ⌝ }
+pub(crate) fn call11(m: Machine, who: Caller, common: &mut [u16], private: &mut [u16]) -> Answer
+    requires { ⌜ Ready m × (who ≡ callerOf m) × (length (now common) ≡ 2048) × (length (now private) ≡ 20480) ⌝ }
     ensures { λ x. ⌜ OnStores x m (now (common .entry)) (now (common .exit)) (now (private .entry)) (now (private .exit)) call11 ⌝ }
 {
-    let i = m.running;
-    let r = regs_of(m);
+    let i = who.number;
+    let process = who.process;
+    let r = process.regs;
     let words = has_words(r, 2);
     if !words {
         return stops(m, fault::CODE);
@@ -152,7 +155,7 @@ pub(crate) fn call11(m: Machine, common: &mut [u16], private: &mut [u16]) -> Ans
     let operation = fetch(i, a, common, private);
     let known = (d <= 4) & (operation <= 3);
     if known {
-        begin(m, d, operation, a, common, private)
+        begin(m, who, d, operation, a, common, private)
     } else {
         stops(m, fault::RANGE)
     }

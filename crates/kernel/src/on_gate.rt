@@ -4,16 +4,15 @@ ghost use lib.Dec.{ltb};
 ghost use lib.ListN.{length};
 ghost use Rattle.notation.specs.If.{if};
 ghost use Rattle.machine.specs.Call.{call6, call7, call8, call9, call10};
-ghost use Rattle.kernel.specs.Did.{OnPrivate, Ready};
+ghost use Rattle.kernel.specs.Did.{OnPrivate, Ready, callerOf};
 use crate::answer::Answer;
 use crate::answer::goes;
 use crate::answer::stops;
+use crate::caller::Caller;
 use crate::caller::has_room;
 use crate::caller::has_words;
-use crate::caller::holds_of;
 use crate::caller::passed;
 use crate::caller::put;
-use crate::caller::regs_of;
 use crate::caller::stack_word;
 use machine::Machine;
 use word::fault;
@@ -26,17 +25,18 @@ pub(crate) fn byte(x: u16) -> u8
 }
 
 // 6 enter: pop gate.
-pub(crate) fn call6(m: Machine, private: &[u16]) -> Answer
-    requires { ⌜ Ready m × (length (now private) ≡ 20480) ⌝ }
+pub(crate) fn call6(m: Machine, who: Caller, private: &[u16]) -> Answer
+    requires { ⌜ Ready m × (who ≡ callerOf m) × (length (now private) ≡ 20480) ⌝ }
     ensures { λ x. ⌜ OnPrivate x m (now (private .entry)) (now (private .entry)) call6 ⌝ }
 {
-    let r = regs_of(m);
+    let process = who.process;
+    let r = process.regs;
     let words = has_words(r, 1);
     if words {
-        let g = byte(stack_word(m.running, r, 0, private));
+        let g = byte(stack_word(who.number, r, 0, private));
         let may = m.may_enter(g);
         if may {
-            goes(passed(m, r.s + 1).enter(g))
+            goes(passed(m, who, r.s + 1).enter(g))
         } else {
             stops(m, fault::GATE)
         }
@@ -46,17 +46,18 @@ pub(crate) fn call6(m: Machine, private: &[u16]) -> Answer
 }
 
 // 7 leave: pop gate.
-pub(crate) fn call7(m: Machine, private: &[u16]) -> Answer
-    requires { ⌜ Ready m × (length (now private) ≡ 20480) ⌝ }
+pub(crate) fn call7(m: Machine, who: Caller, private: &[u16]) -> Answer
+    requires { ⌜ Ready m × (who ≡ callerOf m) × (length (now private) ≡ 20480) ⌝ }
     ensures { λ x. ⌜ OnPrivate x m (now (private .entry)) (now (private .entry)) call7 ⌝ }
 {
-    let r = regs_of(m);
+    let process = who.process;
+    let r = process.regs;
     let words = has_words(r, 1);
     if words {
-        let g = byte(stack_word(m.running, r, 0, private));
+        let g = byte(stack_word(who.number, r, 0, private));
         let may = m.may_leave(g);
         if may {
-            goes(passed(m, r.s + 1).leave(g))
+            goes(passed(m, who, r.s + 1).leave(g))
         } else {
             stops(m, fault::GATE)
         }
@@ -66,18 +67,19 @@ pub(crate) fn call7(m: Machine, private: &[u16]) -> Answer
 }
 
 // 8 delay: pop cell, gate.
-pub(crate) fn call8(m: Machine, private: &[u16]) -> Answer
-    requires { ⌜ Ready m × (length (now private) ≡ 20480) ⌝ }
+pub(crate) fn call8(m: Machine, who: Caller, private: &[u16]) -> Answer
+    requires { ⌜ Ready m × (who ≡ callerOf m) × (length (now private) ≡ 20480) ⌝ }
     ensures { λ x. ⌜ OnPrivate x m (now (private .entry)) (now (private .entry)) call8 ⌝ }
 {
-    let r = regs_of(m);
+    let process = who.process;
+    let r = process.regs;
     let words = has_words(r, 2);
     if words {
-        let c = byte(stack_word(m.running, r, 0, private));
-        let g = byte(stack_word(m.running, r, 1, private));
+        let c = byte(stack_word(who.number, r, 0, private));
+        let g = byte(stack_word(who.number, r, 1, private));
         let may = m.may_delay(g, c);
         if may {
-            goes(passed(m, r.s + 2).delay(g, c))
+            goes(passed(m, who, r.s + 2).delay(g, c))
         } else {
             stops(m, fault::GATE)
         }
@@ -87,18 +89,19 @@ pub(crate) fn call8(m: Machine, private: &[u16]) -> Answer
 }
 
 // 9 continue: pop cell, gate.
-pub(crate) fn call9(m: Machine, private: &[u16]) -> Answer
-    requires { ⌜ Ready m × (length (now private) ≡ 20480) ⌝ }
+pub(crate) fn call9(m: Machine, who: Caller, private: &[u16]) -> Answer
+    requires { ⌜ Ready m × (who ≡ callerOf m) × (length (now private) ≡ 20480) ⌝ }
     ensures { λ x. ⌜ OnPrivate x m (now (private .entry)) (now (private .entry)) call9 ⌝ }
 {
-    let r = regs_of(m);
+    let process = who.process;
+    let r = process.regs;
     let words = has_words(r, 2);
     if words {
-        let c = byte(stack_word(m.running, r, 0, private));
-        let g = byte(stack_word(m.running, r, 1, private));
+        let c = byte(stack_word(who.number, r, 0, private));
+        let g = byte(stack_word(who.number, r, 1, private));
         let may = m.may_continue(g, c);
         if may {
-            goes(passed(m, r.s + 2).continue_cell(g, c))
+            goes(passed(m, who, r.s + 2).continue_cell(g, c))
         } else {
             stops(m, fault::GATE)
         }
@@ -108,23 +111,23 @@ pub(crate) fn call9(m: Machine, private: &[u16]) -> Answer
 }
 
 // 10 new gate: push its number.
-pub(crate) fn call10(m: Machine, private: &mut [u16]) -> Answer
-    requires { ⌜ Ready m × (length (now private) ≡ 20480) ⌝ }
+pub(crate) fn call10(m: Machine, who: Caller, private: &mut [u16]) -> Answer
+    requires { ⌜ Ready m × (who ≡ callerOf m) × (length (now private) ≡ 20480) ⌝ }
     ensures { λ x. ⌜ OnPrivate x m (now (private .entry)) (now (private .exit)) call10 ⌝ }
 {
-    if 25 <= m.made {
+    if 25 <= who.made {
         return stops(m, fault::LIMIT);
     }
-    let holds = holds_of(m);
-    if 8 <= holds {
+    let process = who.process;
+    if 8 <= process.holds {
         return stops(m, fault::GATE);
     }
-    let room = has_room(m);
+    let room = has_room(process);
     if room {
-        let r = regs_of(m);
+        let r = process.regs;
         let s = r.s - 1;
-        put(m.running, s, m.made as u16, private);
-        goes(passed(m, s).make_gate())
+        put(who.number, s, who.made as u16, private);
+        goes(passed(m, who, s).make_gate())
     } else {
         stops(m, fault::STACK_LIMIT)
     }

@@ -2,54 +2,56 @@
 ghost use mathlib.Core.Path.{_≡_};
 ghost use lib.ListN.{length};
 ghost use Rattle.machine.specs.Call.{call0, call1, call2, call4, call5};
-ghost use Rattle.kernel.specs.Did.{OnMachine, OnPrivate, Ready};
+ghost use Rattle.kernel.specs.Did.{OnMachine, OnPrivate, Ready, callerOf};
 use crate::answer::Answer;
 use crate::answer::goes;
 use crate::answer::stops;
+use crate::caller::Caller;
 use crate::caller::has_room;
 use crate::caller::has_words;
-use crate::caller::holds_of;
 use crate::caller::passed;
 use crate::caller::put;
-use crate::caller::regs_of;
 use crate::caller::stack_word;
 use machine::Machine;
 use word::fault;
 
 // 0 wait for the next second.
-pub(crate) fn call0(m: Machine) -> Answer
-    requires { ⌜ Ready m ⌝ }
+pub(crate) fn call0(m: Machine, who: Caller) -> Answer
+    requires { ⌜ Ready m × (who ≡ callerOf m) ⌝ }
     ensures { λ x. ⌜ OnMachine x m call0 ⌝ }
 {
-    let r = regs_of(m);
-    goes(passed(m, r.s).clock_wait())
+    let process = who.process;
+    let r = process.regs;
+    goes(passed(m, who, r.s).clock_wait())
 }
 
 // 1 push seconds.
-pub(crate) fn call1(m: Machine, private: &mut [u16]) -> Answer
-    requires { ⌜ Ready m × (length (now private) ≡ 20480) ⌝ }
+pub(crate) fn call1(m: Machine, who: Caller, private: &mut [u16]) -> Answer
+    requires { ⌜ Ready m × (who ≡ callerOf m) × (length (now private) ≡ 20480) ⌝ }
     ensures { λ x. ⌜ OnPrivate x m (now (private .entry)) (now (private .exit)) call1 ⌝ }
 {
-    let room = has_room(m);
+    let process = who.process;
+    let room = has_room(process);
     if room {
-        let r = regs_of(m);
+        let r = process.regs;
         let s = r.s - 1;
-        put(m.running, s, m.seconds, private);
-        goes(passed(m, s))
+        put(who.number, s, who.seconds, private);
+        goes(passed(m, who, s))
     } else {
         stops(m, fault::STACK_LIMIT)
     }
 }
 
 // 2 pop r, stop the machine with r.
-pub(crate) fn call2(m: Machine, private: &[u16]) -> Answer
-    requires { ⌜ Ready m × (length (now private) ≡ 20480) ⌝ }
+pub(crate) fn call2(m: Machine, who: Caller, private: &[u16]) -> Answer
+    requires { ⌜ Ready m × (who ≡ callerOf m) × (length (now private) ≡ 20480) ⌝ }
     ensures { λ x. ⌜ OnPrivate x m (now (private .entry)) (now (private .entry)) call2 ⌝ }
 {
-    let r = regs_of(m);
+    let process = who.process;
+    let r = process.regs;
     let words = has_words(r, 1);
     if words {
-        let number = stack_word(m.running, r, 0, private);
+        let number = stack_word(who.number, r, 0, private);
         if number <= 6 {
             stops(m, number)
         } else {
@@ -61,33 +63,34 @@ pub(crate) fn call2(m: Machine, private: &[u16]) -> Answer
 }
 
 // 4 end.
-pub(crate) fn call4(m: Machine) -> Answer
-    requires { ⌜ Ready m ⌝ }
+pub(crate) fn call4(m: Machine, who: Caller) -> Answer
+    requires { ⌜ Ready m × (who ≡ callerOf m) ⌝ }
     ensures { λ x. ⌜ OnMachine x m call4 ⌝ }
 {
-    let holds = holds_of(m);
-    if 0 < holds {
+    let process = who.process;
+    if 0 < process.holds {
         stops(m, fault::GATE)
     } else {
-        let r = regs_of(m);
-        goes(passed(m, r.s).finish())
+        let r = process.regs;
+        goes(passed(m, who, r.s).finish())
     }
 }
 
 // 5 stop job: pop reason, process; push the answer.
-pub(crate) fn call5(m: Machine, private: &mut [u16]) -> Answer
-    requires { ⌜ Ready m × (length (now private) ≡ 20480) ⌝ }
+pub(crate) fn call5(m: Machine, who: Caller, private: &mut [u16]) -> Answer
+    requires { ⌜ Ready m × (who ≡ callerOf m) × (length (now private) ≡ 20480) ⌝ }
     ensures { λ x. ⌜ OnPrivate x m (now (private .entry)) (now (private .exit)) call5 ⌝ }
 {
-    let i = m.running;
-    let r = regs_of(m);
+    let i = who.number;
+    let process = who.process;
+    let r = process.regs;
     let words = has_words(r, 2);
     if words {
         let reason = stack_word(i, r, 0, private);
         let q = stack_word(i, r, 1, private);
         let answer = m.stop_answer(q, reason);
         put(i, r.s + 1, answer, private);
-        goes(passed(m, r.s + 1).stop_job(q, reason))
+        goes(passed(m, who, r.s + 1).stop_job(q, reason))
     } else {
         stops(m, fault::CODE)
     }

@@ -4,7 +4,7 @@ ghost use mathlib.Core.Bool.{_&&_};
 ghost use Prim.Native.Nat.{_<_};
 ghost use lib.Dec.{ltb};
 ghost use Rattle.machine.specs.declared.Machine.{Machine};
-ghost use Rattle.machine.specs.Classes.{setRunning, push, wake, best, start, selects, select};
+ghost use Rattle.machine.specs.Classes.{setRunning, push, wake, best, start, select};
 use crate::Machine;
 use crate::Queue;
 
@@ -53,19 +53,6 @@ impl Machine {
         self
     }
 
-    // Whether a selection takes a process now.
-    pub fn selects(self) -> bool
-        ensures { λ r. ⌜ r ≡ selects self ⌝ }
-    {
-        let best = best_of(self.ready);
-        let i = self.running;
-        if 10 <= i {
-            return displaces(best, 3);
-        }
-        let p = self.processes[i as usize];
-        displaces(best, p.class)
-    }
-
     // A strictly better class that is ready displaces the running process.
     pub fn select(self) -> Machine
         ensures { λ r. ⌜ r ≡ select self ⌝ }
@@ -74,16 +61,17 @@ impl Machine {
         let i = self.running;
         if 10 <= i {
             let now = displaces(best, 3);
-            if now { self.start(best) } else { self }
-        } else {
-            let p = self.processes[i as usize];
-            let now = displaces(best, p.class);
             if now {
-                self.set_running(10).wake(i).start(best)
-            } else {
-                self
+                return self.start(best);
             }
+            return self;
         }
+        let p = self.processes[i as usize];
+        let now = displaces(best, p.class);
+        if !now {
+            return self;
+        }
+        self.set_running(10).wake(i).start(best)
     }
 }
 
@@ -110,4 +98,12 @@ fn displaces(best: u8, class: u8) -> bool
     ensures { λ r. ⌜ r ≡ (ltb best class && ltb best 3) ⌝ }
 {
     (best < class) & (best < 3)
+}
+
+// Whether a class that comes before this one is ready; 3 is nobody's.
+pub fn is_better_ready(ready: [Queue; 3], class: u8) -> bool
+    ensures { λ r. ⌜ ((m : Machine) → m .ready ≡ ready → r ≡ (ltb (best m) class && ltb (best m) 3)) ⌝ }
+{
+    let best = best_of(ready);
+    displaces(best, class)
 }

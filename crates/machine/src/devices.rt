@@ -7,6 +7,7 @@ ghost use Rattle.machine.specs.Classes.{setClass};
 ghost use Rattle.machine.specs.Device.{withDevice, deviceStart, deviceEnd};
 use crate::Device;
 use crate::Machine;
+use crate::gates::holds_of;
 
 // Class 1, but 0 while holding a gate.
 fn class_after(holds: u8) -> u8
@@ -69,7 +70,8 @@ impl Machine {
     {
         let x = self.device_of(d);
         let h = x.process;
-        let holds = self.holds_of(h);
+        let processes = self.processes;
+        let holds = holds_of(processes, h);
         let class = class_after(holds);
         let free = Device {
             process: 10,

@@ -4,8 +4,9 @@ ghost use Prim.Native.Nat.{_-_};
 ghost use lib.Dec.{leb};
 ghost use lib.ListN.{getD, set};
 ghost use Rattle.notation.specs.If.{if};
-ghost use Rattle.machine.specs.State.{proc, gate, with, withProcess, more};
-ghost use Rattle.machine.specs.Gate.{latest, entered, given, withGate, join, advance, sit, grant, giveUp, pass, handOn, enter, leave, delay, cell, continue, makeGate, mayEnter, mayLeave, mayContinue, mayDelay};
+ghost use Rattle.machine.specs.State.{more, noProcess, noGate};
+ghost use Rattle.machine.specs.Classes.{setRunning};
+ghost use Rattle.machine.specs.Gate.{latest, entered, given, sit, grant, giveUp, pass, handOn, enter, leave, delay, continue, makeGate, mayEnter, mayLeave, mayContinue, mayDelay};
 use crate::Gate;
 use crate::Machine;
 use crate::Process;
@@ -84,32 +85,16 @@ impl Gate {
 }
 
 impl Machine {
-    // ---- the parts of a gate; one that is not there has none
-    fn holder_of(self, g: u8) -> u8
-        ensures { λ r. ⌜ r ≡ (gate self g) .holder ⌝ }
+    // ---- each in one function, on parts of the machine: a function that is given the machine by value keeps a copy of it
+    // h becomes holder of g.
+    fn grant(mut self, g: u8, h: u8) -> Machine
+        ensures { λ r. ⌜ r ≡ grant self g h ⌝ }
     {
-        if g < 25 {
-            let w = self.gates[g as usize];
-            w.holder
-        } else {
-            0
+        if h < 10 {
+            let p = self.processes[h as usize];
+            let more = p.entered(g);
+            self.processes[h as usize] = more;
         }
-    }
-
-    fn cell_of(self, g: u8, c: u8) -> u8
-        ensures { λ r. ⌜ r ≡ cell self g c ⌝ }
-    {
-        if g < 25 {
-            let w = self.gates[g as usize];
-            w.cell(c)
-        } else {
-            0
-        }
-    }
-
-    fn set_holder(mut self, g: u8, h: u8) -> Machine
-        ensures { λ r. ⌜ r ≡ withGate self g h ((gate self g) .queue) ((gate self g) .cells) ⌝ }
-    {
         if g < 25 {
             let mut w = self.gates[g as usize];
             w.holder = h;
@@ -118,81 +103,36 @@ impl Machine {
         self
     }
 
-    // h waits last at g.
-    fn join(mut self, g: u8, h: u8) -> Machine
-        ensures { λ r. ⌜ r ≡ join self g h ⌝ }
+    // The caller gives g up.
+    fn give_up(mut self, g: u8) -> Machine
+        ensures { λ r. ⌜ r ≡ giveUp self g (self .running) ⌝ }
     {
+        let i = self.running;
+        if i < 10 {
+            let p = self.processes[i as usize];
+            let fewer = p.given();
+            self.processes[i as usize] = fewer;
+        }
         if g < 25 {
             let mut w = self.gates[g as usize];
-            let q = w.queue;
-            let more = q.pushed(h);
-            w.queue = more;
+            w.holder = 10;
             self.gates[g as usize] = w;
         }
         self
     }
 
-    // The first waiter of g is taken off.
-    fn advance(mut self, g: u8) -> Machine
-        ensures { λ r. ⌜ r ≡ advance self g ⌝ }
+    // The caller sits in cell c of g, and runs no longer.
+    fn sit_down(mut self, g: u8, c: u8) -> Machine
+        ensures { λ r. ⌜ r ≡ sit (setRunning self 10) g c (self .running) ⌝ }
     {
-        if g < 25 {
-            let mut w = self.gates[g as usize];
-            let q = w.queue;
-            let less = q.rest();
-            w.queue = less;
-            self.gates[g as usize] = w;
-        }
-        self
-    }
-
-    // x sits in cell c of g.
-    fn sit(mut self, g: u8, c: u8, x: u8) -> Machine
-        ensures { λ r. ⌜ r ≡ sit self g c x ⌝ }
-    {
+        let i = self.running;
+        self.running = 10;
         if g < 25 {
             let w = self.gates[g as usize];
-            let seated = w.seat(c, x);
+            let seated = w.seat(c, i);
             self.gates[g as usize] = seated;
         }
         self
-    }
-
-    // ---- a process gains g, or loses its latest gate
-    fn gains(mut self, h: u8, g: u8) -> Machine
-        ensures { λ r. ⌜ r ≡ withProcess self h (entered (proc self h) g) ⌝ }
-    {
-        if h < 10 {
-            let p = self.processes[h as usize];
-            let more = p.entered(g);
-            self.processes[h as usize] = more;
-        }
-        self
-    }
-
-    fn loses(mut self, h: u8) -> Machine
-        ensures { λ r. ⌜ r ≡ withProcess self h (given (proc self h)) ⌝ }
-    {
-        if h < 10 {
-            let p = self.processes[h as usize];
-            let fewer = p.given();
-            self.processes[h as usize] = fewer;
-        }
-        self
-    }
-
-    // h becomes holder of g.
-    fn grant(self, g: u8, h: u8) -> Machine
-        ensures { λ r. ⌜ r ≡ grant self g h ⌝ }
-    {
-        self.gains(h, g).set_holder(g, h)
-    }
-
-    // h gives g up.
-    fn give_up(self, g: u8, h: u8) -> Machine
-        ensures { λ r. ⌜ r ≡ giveUp self g h ⌝ }
-    {
-        self.loses(h).set_holder(g, 10)
     }
 
     // A process that waited or sat holds g, and is ready.
@@ -203,69 +143,75 @@ impl Machine {
     }
 
     // The first waiter holds, else the gate, given up before, is open.
-    fn hand_on(self, g: u8) -> Machine
+    fn hand_on(mut self, g: u8) -> Machine
         ensures { λ r. ⌜ r ≡ handOn self g ⌝ }
     {
         if 25 <= g {
             return self;
         }
-        let w = self.gates[g as usize];
+        let mut w = self.gates[g as usize];
         let q = w.queue;
         if q.len == 0 {
             return self;
         }
         let h = q.at[0];
-        self.advance(g).pass(g, h)
+        let less = q.rest();
+        w.queue = less;
+        self.gates[g as usize] = w;
+        self.pass(g, h)
     }
 
     // ---- the operations of the running process, where no fault forbids them
     // Open, the caller holds it; shut, the caller waits last.
-    pub fn enter(self, g: u8) -> Machine
+    pub fn enter(mut self, g: u8) -> Machine
         ensures { λ r. ⌜ r ≡ enter self g ⌝ }
     {
         let i = self.running;
-        let holder = self.holder_of(g);
-        if 10 <= holder {
-            self.grant(g, i)
-        } else {
-            self.set_running(10).join(g, i)
+        if 25 <= g {
+            self.running = 10;
+            return self;
         }
+        let mut w = self.gates[g as usize];
+        if 10 <= w.holder {
+            return self.grant(g, i);
+        }
+        let q = w.queue;
+        let more = q.pushed(i);
+        w.queue = more;
+        self.gates[g as usize] = w;
+        self.running = 10;
+        self
     }
 
     // The first waiter holds, else the gate opens.
     pub fn leave(self, g: u8) -> Machine
         ensures { λ r. ⌜ r ≡ leave self g ⌝ }
     {
-        let i = self.running;
-        self.give_up(g, i).hand_on(g)
+        self.give_up(g).hand_on(g)
     }
 
     // The caller sits in the cell, and the gate is given up as in leave.
     pub fn delay(self, g: u8, c: u8) -> Machine
         ensures { λ r. ⌜ r ≡ delay self g c ⌝ }
     {
-        let i = self.running;
-        self.set_running(10).give_up(g, i).sit(g, c, i).hand_on(g)
+        self.give_up(g).sit_down(g, c).hand_on(g)
     }
 
-    // The caller is out; the process in the cell holds, or if the cell is empty, as in leave.
-    pub fn continue_cell(self, g: u8, c: u8) -> Machine
+    // The caller is out; the process in the cell holds, before all that wait, or if the cell is empty, as in leave.
+    pub fn continue_cell(mut self, g: u8, c: u8) -> Machine
         ensures { λ r. ⌜ r ≡ continue self g c ⌝ }
     {
-        let h = self.cell_of(g, c);
-        if 10 <= h {
-            self.leave(g)
-        } else {
-            self.go_on_from(g, c, h)
+        if 25 <= g {
+            return self.give_up(g).pass(g, 0);
         }
-    }
-
-    // The process h in the cell holds the gate, before all that wait.
-    fn go_on_from(self, g: u8, c: u8, h: u8) -> Machine
-        ensures { λ r. ⌜ r ≡ pass (sit (giveUp self g (self .running)) g c 10) g h ⌝ }
-    {
-        let i = self.running;
-        self.give_up(g, i).sit(g, c, 10).pass(g, h)
+        let w = self.gates[g as usize];
+        let h = w.cell(c);
+        if 10 <= h {
+            return self.leave(g);
+        }
+        let empty = w.seat(c, 10);
+        self.gates[g as usize] = empty;
+        self.give_up(g).pass(g, h)
     }
 
     // A new gate, shut and held by the caller.
@@ -287,36 +233,50 @@ pub(crate) fn one_more(x: u8, k: u8) -> u8
 }
 
 // ---- fault 8
+// The parts that it asks for, of the processes or the gates alone; one that is not there has none.
+pub(crate) fn holds_of(processes: [Process; 10], h: u8) -> u8
+    ensures { λ r. ⌜ r ≡ (getD processes h noProcess) .holds ⌝ }
+{
+    if h < 10 {
+        let p = processes[h as usize];
+        p.holds
+    } else {
+        0
+    }
+}
+
+fn holder_of(gates: [Gate; 25], g: u8) -> u8
+    ensures { λ r. ⌜ r ≡ (getD gates g noGate) .holder ⌝ }
+{
+    if g < 25 {
+        let w = gates[g as usize];
+        w.holder
+    } else {
+        0
+    }
+}
+
+fn cell_of(gates: [Gate; 25], g: u8, c: u8) -> u8
+    ensures { λ r. ⌜ r ≡ getD ((getD gates g noGate) .cells) c 0 ⌝ }
+{
+    if g < 25 {
+        let w = gates[g as usize];
+        w.cell(c)
+    } else {
+        0
+    }
+}
+
 impl Machine {
-    pub(crate) fn holds_of(self, h: u8) -> u8
-        ensures { λ r. ⌜ r ≡ (proc self h) .holds ⌝ }
-    {
-        if h < 10 {
-            let p = self.processes[h as usize];
-            p.holds
-        } else {
-            0
-        }
-    }
-
-    fn latest_of(self, h: u8) -> u8
-        ensures { λ r. ⌜ r ≡ latest (proc self h) ⌝ }
-    {
-        if h < 10 {
-            let p = self.processes[h as usize];
-            p.latest()
-        } else {
-            0
-        }
-    }
-
     // A gate there is, not held by the caller, and the caller has room for one more.
     pub fn may_enter(self, g: u8) -> bool
         ensures { λ r. ⌜ r ≡ mayEnter self g ⌝ }
     {
         let i = self.running;
-        let holder = self.holder_of(g);
-        let holds = self.holds_of(i);
+        let gates = self.gates;
+        let holder = holder_of(gates, g);
+        let processes = self.processes;
+        let holds = holds_of(processes, i);
         (g < self.made) & !(holder == i) & (holds < 8)
     }
 
@@ -325,9 +285,12 @@ impl Machine {
         ensures { λ r. ⌜ r ≡ mayLeave self g ⌝ }
     {
         let i = self.running;
-        let holds = self.holds_of(i);
-        let latest = self.latest_of(i);
-        (g < self.made) & (0 < holds) & (latest == g)
+        if 10 <= i {
+            return false;
+        }
+        let p = self.processes[i as usize];
+        let latest = p.latest();
+        (g < self.made) & (0 < p.holds) & (latest == g)
     }
 
     pub fn may_continue(self, g: u8, c: u8) -> bool
@@ -341,7 +304,8 @@ impl Machine {
         ensures { λ r. ⌜ r ≡ mayDelay self g c ⌝ }
     {
         let may = self.may_continue(g, c);
-        let x = self.cell_of(g, c);
+        let gates = self.gates;
+        let x = cell_of(gates, g, c);
         may & (10 <= x)
     }
 }

@@ -6,6 +6,7 @@ mod gates;
 mod processes;
 mod queues;
 
+pub use classes::is_better_ready;
 use image::Header;
 ghost use mathlib.Core.Path.{_≡_};
 ghost use Rattle.machine.specs.State.{started, fresh};

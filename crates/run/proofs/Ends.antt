@@ -1,21 +1,23 @@
 -- How a burst of a sound state ends, and what the code that follows it needs
 use mathlib.Core.Path.{_≡_, refl, sym, ap, subst, _∙_}
-use mathlib.Core.Bool.{Bool, true, false, and-false}
+use mathlib.Core.Bool.{Bool, true, false, _&&_, and-false}
 use mathlib.Core.List.{List}
 use Prim.Native.Nat.{ℕ, zero, suc, _+_, _-_, _*_, _<_, _≤_}
 use native.Mathlib.Omega.{arith}
-use lib.ListN.{length, take, drop}
+use lib.ListN.{length, set, take, drop}
 use lib.Seq.{drop-drop}
-use borrow.Author.Tests.{lt-ltb, le-leb}
+use lib.Dec.{ltb}
+use borrow.Author.Tests.{lt-ltb, le-leb, lt-leb}
 use borrow.Rule.Slice.PartMut.{midOf, putMid}
 use Rattle.notation.proofs.Upto.{split}
 use Rattle.machine.specs.declared.Regs.{Regs}
+use Rattle.machine.specs.declared.Process.{Process}
 use Rattle.machine.specs.declared.Machine.{Machine}
-use Rattle.machine.specs.State.{nobody, proc, floorOf, withProcess, withRegs}
+use Rattle.machine.specs.State.{nobody, proc, floorOf, with, withProcess, withRegs}
 use Rattle.machine.specs.Store.{World, partOf, withPart}
 use Rattle.machine.specs.View.{View, Out, next, faults, calls, Effect}
 use Rattle.machine.specs.Instruction.{instruct}
-use Rattle.machine.specs.Classes.{selects}
+use Rattle.machine.specs.Classes.{best, selects}
 use Rattle.machine.specs.Call.{Called, on, starts, stops, kernel}
 use Rattle.machine.specs.Step.{view, Stepped, called}
 use Rattle.promises.proofs.Runs.{at-most, job-high}
@@ -36,21 +38,30 @@ use Rattle.run.proofs.Parts.{put-same, put-view, put-put}
 use Rattle.run.proofs.Turns.{few, room, own-long, burst-step, steps-on, runs-on, stays-on, is-fit}
 
 -- ---- the part of the private store that a burst is lent
-module _ (code : List ℕ) (m : Machine) (quota : ℕ) (common q : List ℕ) where
-  abbrev i : ℕ
-  i = m .running
-
+module _ (code : List ℕ) (i : ℕ) (p : Process) (quota : ℕ) (common q : List ℕ) where
   abbrev seenBy : List ℕ → View
-  seenBy o = record { code = code; floor = floorOf (proc m i); holding = (view code (world m common q)) .holding; regs = (proc m i) .regs; common = common; own = o }
+  seenBy o = record { code = code; floor = floorOf p; holding = ltb 0 (p .holds); regs = p .regs; common = common; own = o }
 
   pub burst-put : (x : Burst) (c o : List ℕ) → record { burst = x; common = c; own = o } ≡ bursts quota (seenBy (midOf (2048 * i) (2048 * i + 2048 - 2048 * i) q))
+      → (m : Machine) → m .running ≡ i → proc m i ≡ p
       → (x ≡ (bursts quota (view code (world m common q))) .burst)
       × (c ≡ (bursts quota (view code (world m common q))) .common)
-      × (putMid (2048 * i) (2048 * i + 2048 - 2048 * i) q o ≡ withPart i ((bursts quota (view code (world m common q))) .own) q)
-  burst-put x c o e =
+      × (putMid (2048 * i) (2048 * i + 2048 - 2048 * i) q o ≡ withPart (m .running) ((bursts quota (view code (world m common q))) .own) q)
+  burst-put x c o e m r s =
       let z : 2048 * i + 2048 - 2048 * i ≡ 2048 = omega arith in
-      let h : record { burst = x; common = c; own = o } ≡ bursts quota (view code (world m common q)) = rw z at e in
-      (ap (λ (b : Bursted). b .burst) h, ap (λ (b : Bursted). b .common) h, rw (z, ap (λ (b : Bursted). b .own) h, drop-drop 2048 (2048 * i) q))
+      let v : view code (world m common q) ≡ seenBy (partOf i q) = rw (r, s) in
+      let h : record { burst = x; common = c; own = o } ≡ bursts quota (seenBy (partOf i q)) = rw z at e in
+      rw (v, r) (ap (λ (b : Bursted). b .burst) h, ap (λ (b : Bursted). b .common) h, rw (z, ap (λ (b : Bursted). b .own) h, drop-drop 2048 (2048 * i) q))
+
+-- ---- a process that runs is displaced where a class before its own is ready
+pub outranked : (m : Machine) → m .running < nobody → selects m ≡ (ltb (best m) ((proc m (m .running)) .class) && ltb (best m) 3)
+unfolding selects
+outranked m l = rw (lt-leb _ _ l)
+
+-- ---- the running process put back with its new registers
+pub put-back : (m : Machine) (p q : Process) → p ≡ q → with m (set (m .processes) (m .running) p) (m .gates) (m .ready) (m .running) ≡ withProcess m (m .running) q
+unfolding withProcess
+put-back m p q e = rw e
 
 -- ---- how a burst ends: after at most so many instructions; a call and a fault are not counted yet
 abbrev pub Ends : List ℕ → End → World → ℕ → ℕ → Type 0

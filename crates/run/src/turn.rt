@@ -3,7 +3,8 @@ ghost use mathlib.Core.Path.{_≡_};
 ghost use mathlib.Core.List.{List};
 ghost use Prim.Native.Nat.{ℕ, _≤_, _<_};
 ghost use lib.ListN.{length};
-ghost use Rattle.machine.specs.State.{proc, timed, withProcess, withRegs};
+ghost use Rattle.machine.specs.declared.Machine.{Machine};
+ghost use Rattle.machine.specs.State.{proc, timed, withRegs};
 ghost use Rattle.machine.specs.Store.{withPart};
 ghost use Rattle.machine.specs.Call.{kernel};
 ghost use Rattle.machine.specs.Step.{view, onward, stepped, selected, halted, called};
@@ -17,6 +18,8 @@ use crate::answer::Ran;
 use engine::Burst;
 use kernel::Answer;
 use machine::Machine;
+use machine::Process;
+use machine::Queue;
 use machine::Regs;
 
 // The machine stops with a number, at the running process's last line.
@@ -32,16 +35,12 @@ fn halt(mut m: Machine, f: u16) -> Machine
     m
 }
 
-// The running process has other registers.
-fn with_regs(mut m: Machine, r: Regs) -> Machine
-    requires { ⌜ m .running < 10 ⌝ }
-    ensures { λ x. ⌜ x ≡ withProcess m (m .running) (withRegs (proc m (m .running)) r) ⌝ }
+// A process with other registers.
+fn with_regs(mut p: Process, r: Regs) -> Process
+    ensures { λ x. ⌜ x ≡ withRegs p r ⌝ }
 {
-    let i = m.running;
-    let mut p = m.processes[i as usize];
     p.regs = r;
-    m.processes[i as usize] = p;
-    m
+    p
 }
 
 fn goes_on(m: Machine, count: u32) -> Ran
@@ -98,20 +97,25 @@ fn call(m: Machine, k: u16, count: u32, common: &mut [u16], private: &mut [u16])
 }
 
 // Where a better class is ready when the turn begins, it is one instruction long.
-fn quota_of(m: Machine, budget: u32) -> u32
-    ensures { λ r. ⌜ r ≡ quotaOf m budget ⌝ }
+fn quota_of(ready: [Queue; 3], class: u8, budget: u32) -> u32
+    ensures { λ r. ⌜ ((m : Machine) → m .ready ≡ ready → m .running < 10 → (proc m (m .running)) .class ≡ class → r ≡ quotaOf m budget) ⌝ }
 {
-    let one = m.selects();
+    let one = machine::is_better_ready(ready, class);
     if one { 1 } else { budget }
 }
 
-// A burst of the running process, on its own part of the private store.
-fn burst(m: Machine, code: &[u16], quota: u32, common: &mut [u16], private: &mut [u16]) -> Burst
-    requires { ⌜ (m .running < 10) × ((proc m (m .running)) .variables ≤ 2048) × (length (now private) ≡ 20480) ⌝ }
-    ensures { λ x. ⌜ (x ≡ (bursts quota (view (now (code .entry)) (world m (now (common .entry)) (now (private .entry))))) .burst) × (now (common .exit) ≡ (bursts quota (view (now (code .entry)) (world m (now (common .entry)) (now (private .entry))))) .common) × (now (private .exit) ≡ withPart (m .running) ((bursts quota (view (now (code .entry)) (world m (now (common .entry)) (now (private .entry))))) .own) (now (private .entry))) ⌝ }
+// A burst of process i, on its own part of the private store.
+fn burst(
+    i: u8,
+    p: Process,
+    code: &[u16],
+    quota: u32,
+    common: &mut [u16],
+    private: &mut [u16],
+) -> Burst
+    requires { ⌜ (i < 10) × (p .variables ≤ 2048) × (length (now private) ≡ 20480) ⌝ }
+    ensures { λ x. ⌜ ((m : Machine) → m .running ≡ i → proc m i ≡ p → (x ≡ (bursts quota (view (now (code .entry)) (world m (now (common .entry)) (now (private .entry))))) .burst) × (now (common .exit) ≡ (bursts quota (view (now (code .entry)) (world m (now (common .entry)) (now (private .entry))))) .common) × (now (private .exit) ≡ withPart (m .running) ((bursts quota (view (now (code .entry)) (world m (now (common .entry)) (now (private .entry))))) .own) (now (private .entry)))) ⌝ }
 {
-    let i = m.running;
-    let p = m.processes[i as usize];
     let floor = 2048 + p.variables;
     let holding = 0 < p.holds;
     let at = 2048 * (i as usize);
@@ -132,12 +136,16 @@ fn turn(m: Machine, code: &[u16], budget: u32, common: &mut [u16], private: &mut
     requires { ⌜ Accepted (now code) (world m (now common) (now private)) × (m .running < 10) × (0 < budget) ⌝ }
     ensures { λ x. ⌜ ran x (now (common .exit)) (now (private .exit)) ≡ turn (now (code .entry)) (quotaOf m budget) (world m (now (common .entry)) (now (private .entry))) ⌝ }
 {
-    let quota = quota_of(m, budget);
-    let x = burst(m, code, quota, common, private);
+    let i = m.running;
+    let p = m.processes[i as usize];
+    let quota = quota_of(m.ready, p.class, budget);
+    let x = burst(i, p, code, quota, common, private);
     let regs = x.regs;
     let count = x.count;
     let end = x.end;
-    let moved = with_regs(m, regs);
+    let new = with_regs(p, regs);
+    let mut moved = m;
+    moved.processes[i as usize] = new;
     match end {
         engine::End::Budget => goes_on(moved, count),
         engine::End::Job => goes_on(moved, count),

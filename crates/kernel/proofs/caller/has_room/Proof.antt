@@ -2,15 +2,6 @@ use borrow.Author.Needs.{needs}
 use Rattle.kernel.proofs.caller.has_room.Statement.{statement}
 use Rattle.kernel.proofs.caller.has_room.Tie as tie
 
-cast-p : tie.Need-cast-p
-cast-p c = search needs
-
-mul-p : tie.Need-mul-p
-mul-p c = search needs
-
-element-copy-out-p : tie.Need-element-copy-out-p
-element-copy-out-p c = search needs
-
 wide-requires : tie.Need-wide-requires
 wide-requires c κs = search needs
 
@@ -28,14 +19,4 @@ returns c =
     rw (c .wide2 .ensures .0, c .before .wide .ensures .0)
 
 pub has-room-spec : {M : Type 1} → statement M
-has-room-spec =
-    tie.close
-    (tie.spec
-    cast-p
-    mul-p
-    element-copy-out-p
-    wide-requires
-    add-least
-    add-least-2
-    wide-requires-2
-    returns)
+has-room-spec = tie.close (tie.spec wide-requires add-least add-least-2 wide-requires-2 returns)

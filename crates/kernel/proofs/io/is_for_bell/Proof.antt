@@ -7,7 +7,7 @@ is-present-requires c κs = search needs
 
 returns : tie.Need-returns
 returns c =
-    rw (c .is-present .ensures)
+    λ m e. rw (c .is-present .ensures m e)
 
 pub is-for-bell-spec : {M : Type 1} → statement M
 is-for-bell-spec = tie.close (tie.spec is-present-requires returns)

@@ -10,7 +10,7 @@ is-busy-requires c κs = search needs
 
 returns : tie.Need-returns
 returns c =
-    rw (c .is-busy .ensures, c .before .is-present .ensures)
+    rw (c .is-busy .ensures, c .before .is-present .ensures (c .before .before .args .m) (c .before .before .pre .1))
 
 pub is-refused-spec : {M : Type 1} → statement M
 is-refused-spec = tie.close (tie.spec is-present-requires is-busy-requires returns)

@@ -5,22 +5,19 @@ use Rattle.kernel.proofs.Laws.{call8-few, call8-gate, call8-goes, has-w
 use Rattle.kernel.proofs.on_gate.call8.Statement.{statement}
 use Rattle.kernel.proofs.on_gate.call8.Tie as tie
 
-regs-of-requires : tie.Need-regs-of-requires
-regs-of-requires c κs = search needs
-
 has-words-requires : tie.Need-has-words-requires
 has-words-requires c κs = search needs
 
 stack-word-requires : tie.Need-stack-word-requires
 stack-word-requires c κs =
-    let f = words-there (c .before .before .before .before .args .m) _ 2 _ (c .before .before .before .before .pre .0) (c .before .before .regs-of .ensures) (c .before .has-words .ensures) (c .if1 .taken) in (c .before .before .before .before .pre .0 .runs, f .low, omega (arith, f .words, f .high), c .before .before .before .before .pre .1)
+    let f = words-there (c .before .before .before .before .before .args .m) _ 2 _ (c .before .before .before .before .before .pre .0) (c .before .before .before .before .before .pre .1) (c .before .has-words .ensures) (c .if1 .taken) in (f .runs, f .low, omega (arith, f .words, f .high), c .before .before .before .before .before .pre .2)
 
 byte-requires : tie.Need-byte-requires
 byte-requires c κs = search needs
 
 stack-word-requires-2 : tie.Need-stack-word-requires-2
 stack-word-requires-2 c κs =
-    let f = words-there (c .before .before .before .before .before .before .args .m) _ 2 _ (c .before .before .before .before .before .before .pre .0) (c .before .before .before .before .regs-of .ensures) (c .before .before .before .has-words .ensures) (c .before .before .if1 .taken) in (c .before .before .before .before .before .before .pre .0 .runs, f .low, omega (arith, f .words, f .high), c .before .before .before .before .before .before .pre .1)
+    let f = words-there (c .before .before .before .before .before .before .before .args .m) _ 2 _ (c .before .before .before .before .before .before .before .pre .0) (c .before .before .before .before .before .before .before .pre .1) (c .before .before .before .has-words .ensures) (c .before .before .if1 .taken) in (f .runs, f .low, omega (arith, f .words, f .high), c .before .before .before .before .before .before .before .pre .2)
 
 byte-requires-2 : tie.Need-byte-requires-2
 byte-requires-2 c κs = search needs
@@ -30,7 +27,7 @@ may-delay-requires c κs = search needs
 
 add-passed : tie.Need-add-passed
 add-passed c =
-    let f = words-there (c .before .before .before .before .before .before .before .before .before .before .before .args .m) _ 2 _ (c .before .before .before .before .before .before .before .before .before .before .before .pre .0) (c .before .before .before .before .before .before .before .before .before .regs-of .ensures) (c .before .before .before .before .before .before .before .before .has-words .ensures) (c .before .before .before .before .before .before .before .if1 .taken) in omega (arith, f .words, f .high)
+    let f = words-there (c .before .before .before .before .before .before .before .before .before .before .before .before .args .m) _ 2 _ (c .before .before .before .before .before .before .before .before .before .before .before .before .pre .0) (c .before .before .before .before .before .before .before .before .before .before .before .before .pre .1) (c .before .before .before .before .before .before .before .before .has-words .ensures) (c .before .before .before .before .before .before .before .if1 .taken) in omega (arith, f .words, f .high)
 
 passed-requires : tie.Need-passed-requires
 passed-requires c κs = search needs
@@ -49,21 +46,20 @@ stops-requires-2 c κs = search needs
 
 returns : tie.Need-returns
 returns c =
-    λ k. let e = has-words (c .before .before .before .before .before .before .before .before .before .before .before .before .before .before .args .m) _ 2 _ _ (c .before .before .before .before .before .before .before .before .before .before .before .before .regs-of .ensures) (c .before .before .before .before .before .before .before .before .before .before .before .has-words .ensures) (c .before .before .before .before .before .before .before .before .before .before .if1 .taken) in let a = rw (c .before .before .before .before .before .before .before .before .before .stack-word .ensures, c .before .before .before .before .before .before .before .before .before .before .before .before .regs-of .ensures) at (c .before .before .before .before .before .before .before .before .byte .ensures) in let b = rw (c .before .before .before .before .before .before .before .stack-word2 .ensures, c .before .before .before .before .before .before .before .before .before .before .before .before .regs-of .ensures) at (c .before .before .before .before .before .before .byte2 .ensures) in rw (c .goes .ensures, c .before .delay .ensures, c .before .before .passed .ensures, c .before .before .before .before .before .before .before .before .before .before .before .before .regs-of .ensures) (call8-goes (c .before .before .before .before .before .before .before .before .before .before .before .before .before .before .args .m) k _ _ _ e a b (c .before .before .before .before .before .before .before .before .before .before .before .before .before .before .pre .0 .few) (sym (c .before .before .before .before .before .may-delay .ensures) ∙ c .before .before .before .before .if2 .taken))
+    λ k. let e = has-words (c .before .before .before .before .before .before .before .before .before .before .before .before .before .before .before .args .m) _ 2 _ _ (c .before .before .before .before .before .before .before .before .before .before .before .before .before .before .before .pre .1) (c .before .before .before .before .before .before .before .before .before .before .before .has-words .ensures) (c .before .before .before .before .before .before .before .before .before .before .if1 .taken) in let a = rw (c .before .before .before .before .before .before .before .before .before .stack-word .ensures, c .before .before .before .before .before .before .before .before .before .before .before .before .before .before .before .pre .1) at (c .before .before .before .before .before .before .before .before .byte .ensures) in let b = rw (c .before .before .before .before .before .before .before .stack-word2 .ensures, c .before .before .before .before .before .before .before .before .before .before .before .before .before .before .before .pre .1) at (c .before .before .before .before .before .before .byte2 .ensures) in rw (c .goes .ensures, c .before .delay .ensures, c .before .before .passed .ensures, c .before .before .before .before .before .before .before .before .before .before .before .before .before .before .before .pre .1) (call8-goes (c .before .before .before .before .before .before .before .before .before .before .before .before .before .before .before .args .m) k _ _ _ e a b (c .before .before .before .before .before .before .before .before .before .before .before .before .before .before .before .pre .0 .few) (sym (c .before .before .before .before .before .may-delay .ensures) ∙ c .before .before .before .before .if2 .taken))
 
 returns-2 : tie.Need-returns-2
 returns-2 c =
-    λ k. let e = has-words (c .before .before .before .before .before .before .before .before .before .before .before .args .m) _ 2 _ _ (c .before .before .before .before .before .before .before .before .before .regs-of .ensures) (c .before .before .before .before .before .before .before .before .has-words .ensures) (c .before .before .before .before .before .before .before .if1 .taken) in let a = rw (c .before .before .before .before .before .before .stack-word .ensures, c .before .before .before .before .before .before .before .before .before .regs-of .ensures) at (c .before .before .before .before .before .byte .ensures) in let b = rw (c .before .before .before .before .stack-word2 .ensures, c .before .before .before .before .before .before .before .before .before .regs-of .ensures) at (c .before .before .before .byte2 .ensures) in rw (c .stops .ensures) (call8-gate (c .before .before .before .before .before .before .before .before .before .before .before .args .m) k _ _ _ e a b (c .before .before .before .before .before .before .before .before .before .before .before .pre .0 .few) (sym (c .before .before .may-delay .ensures) ∙ c .before .if2 .left))
+    λ k. let e = has-words (c .before .before .before .before .before .before .before .before .before .before .before .before .args .m) _ 2 _ _ (c .before .before .before .before .before .before .before .before .before .before .before .before .pre .1) (c .before .before .before .before .before .before .before .before .has-words .ensures) (c .before .before .before .before .before .before .before .if1 .taken) in let a = rw (c .before .before .before .before .before .before .stack-word .ensures, c .before .before .before .before .before .before .before .before .before .before .before .before .pre .1) at (c .before .before .before .before .before .byte .ensures) in let b = rw (c .before .before .before .before .stack-word2 .ensures, c .before .before .before .before .before .before .before .before .before .before .before .before .pre .1) at (c .before .before .before .byte2 .ensures) in rw (c .stops .ensures) (call8-gate (c .before .before .before .before .before .before .before .before .before .before .before .before .args .m) k _ _ _ e a b (c .before .before .before .before .before .before .before .before .before .before .before .before .pre .0 .few) (sym (c .before .before .may-delay .ensures) ∙ c .before .if2 .left))
 
 returns-3 : tie.Need-returns-3
 returns-3 c =
-    λ k. let e = has-words (c .before .before .before .before .before .args .m) _ 2 _ _ (c .before .before .before .regs-of .ensures) (c .before .before .has-words .ensures) (c .before .if1 .left) in rw (c .stops2 .ensures) (call8-few (c .before .before .before .before .before .args .m) k _ e)
+    λ k. let e = has-words (c .before .before .before .before .before .before .args .m) _ 2 _ _ (c .before .before .before .before .before .before .pre .1) (c .before .before .has-words .ensures) (c .before .if1 .left) in rw (c .stops2 .ensures) (call8-few (c .before .before .before .before .before .before .args .m) k _ e)
 
 pub call8-spec : {M : Type 1} → statement M
 call8-spec =
     tie.close
     (tie.spec
-    regs-of-requires
     has-words-requires
     stack-word-requires
     byte-requires

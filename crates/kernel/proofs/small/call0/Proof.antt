@@ -3,9 +3,6 @@ use Rattle.kernel.proofs.Laws.{call0-goes}
 use Rattle.kernel.proofs.small.call0.Statement.{statement}
 use Rattle.kernel.proofs.small.call0.Tie as tie
 
-regs-of-requires : tie.Need-regs-of-requires
-regs-of-requires c κs = search needs
-
 passed-requires : tie.Need-passed-requires
 passed-requires c κs = search needs
 
@@ -17,8 +14,7 @@ goes-requires c κs = search needs
 
 returns : tie.Need-returns
 returns c =
-    λ k l. rw (c .goes .ensures, c .before .clock-wait .ensures, c .before .before .passed .ensures, c .before .before .before .regs-of .ensures) (call0-goes (c .before .before .before .before .args .m) k l)
+    λ k l. rw (c .goes .ensures, c .before .clock-wait .ensures, c .before .before .passed .ensures, c .before .before .before .before .before .pre .1) (call0-goes (c .before .before .before .before .before .args .m) k l)
 
 pub call0-spec : {M : Type 1} → statement M
-call0-spec =
-    tie.close (tie.spec regs-of-requires passed-requires clock-wait-requires goes-requires returns)
+call0-spec = tie.close (tie.spec passed-requires clock-wait-requires goes-requires returns)

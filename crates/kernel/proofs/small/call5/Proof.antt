@@ -6,34 +6,31 @@ use Rattle.kernel.proofs.Laws.{call5-few, call5-goes, has-words, words-
 use Rattle.kernel.proofs.small.call5.Statement.{statement}
 use Rattle.kernel.proofs.small.call5.Tie as tie
 
-regs-of-requires : tie.Need-regs-of-requires
-regs-of-requires c κs = search needs
-
 has-words-requires : tie.Need-has-words-requires
 has-words-requires c κs = search needs
 
 stack-word-requires : tie.Need-stack-word-requires
 stack-word-requires c κs =
-    let f = words-there (c .before .before .before .before .before .args .m) _ 2 _ (c .before .before .before .before .before .pre .0) (c .before .before .before .regs-of .ensures) (c .before .before .has-words .ensures) (c .before .if1 .taken) in (c .before .before .before .before .before .pre .0 .runs, f .low, omega (arith, f .words, f .high), c .before .before .before .before .before .pre .1)
+    let f = words-there (c .before .before .before .before .before .before .args .m) _ 2 _ (c .before .before .before .before .before .before .pre .0) (c .before .before .before .before .before .before .pre .1) (c .before .before .has-words .ensures) (c .before .if1 .taken) in (f .runs, f .low, omega (arith, f .words, f .high), c .before .before .before .before .before .before .pre .2)
 
 stack-word-requires-2 : tie.Need-stack-word-requires-2
 stack-word-requires-2 c κs =
-    let f = words-there (c .before .before .before .before .before .before .before .args .m) _ 2 _ (c .before .before .before .before .before .before .before .pre .0) (c .before .before .before .before .before .regs-of .ensures) (c .before .before .before .before .has-words .ensures) (c .before .before .before .if1 .taken) in (c .before .before .before .before .before .before .before .pre .0 .runs, f .low, omega (arith, f .words, f .high), c .before .before .before .before .before .before .before .pre .1)
+    let f = words-there (c .before .before .before .before .before .before .before .before .args .m) _ 2 _ (c .before .before .before .before .before .before .before .before .pre .0) (c .before .before .before .before .before .before .before .before .pre .1) (c .before .before .before .before .has-words .ensures) (c .before .before .before .if1 .taken) in (f .runs, f .low, omega (arith, f .words, f .high), c .before .before .before .before .before .before .before .before .pre .2)
 
 stop-answer-requires : tie.Need-stop-answer-requires
 stop-answer-requires c κs = search needs
 
 add-put : tie.Need-add-put
 add-put c =
-    let f = words-there (c .before .before .before .before .before .before .before .before .before .before .args .m) _ 2 _ (c .before .before .before .before .before .before .before .before .before .before .pre .0) (c .before .before .before .before .before .before .before .before .regs-of .ensures) (c .before .before .before .before .before .before .before .has-words .ensures) (c .before .before .before .before .before .before .if1 .taken) in omega (arith, f .words, f .high)
+    let f = words-there (c .before .before .before .before .before .before .before .before .before .before .before .args .m) _ 2 _ (c .before .before .before .before .before .before .before .before .before .before .before .pre .0) (c .before .before .before .before .before .before .before .before .before .before .before .pre .1) (c .before .before .before .before .before .before .before .has-words .ensures) (c .before .before .before .before .before .before .if1 .taken) in omega (arith, f .words, f .high)
 
 put-requires : tie.Need-put-requires
 put-requires c κs =
-    let f = words-there (c .before .before .before .before .before .before .before .before .before .before .before .args .m) _ 2 _ (c .before .before .before .before .before .before .before .before .before .before .before .pre .0) (c .before .before .before .before .before .before .before .before .before .regs-of .ensures) (c .before .before .before .before .before .before .before .before .has-words .ensures) (c .before .before .before .before .before .before .before .if1 .taken) in (c .before .before .before .before .before .before .before .before .before .before .before .pre .0 .runs, omega (arith, f .low), omega (arith, f .words, f .high), c .before .before .before .before .before .before .before .before .before .before .before .pre .1)
+    let f = words-there (c .before .before .before .before .before .before .before .before .before .before .before .before .args .m) _ 2 _ (c .before .before .before .before .before .before .before .before .before .before .before .before .pre .0) (c .before .before .before .before .before .before .before .before .before .before .before .before .pre .1) (c .before .before .before .before .before .before .before .before .has-words .ensures) (c .before .before .before .before .before .before .before .if1 .taken) in (f .runs, omega (arith, f .low), omega (arith, f .words, f .high), c .before .before .before .before .before .before .before .before .before .before .before .before .pre .2)
 
 add-passed : tie.Need-add-passed
 add-passed c =
-    let f = words-there (c .before .before .before .before .before .before .before .before .before .before .before .before .before .before .before .args .m) _ 2 _ (c .before .before .before .before .before .before .before .before .before .before .before .before .before .before .before .pre .0) (c .before .before .before .before .before .before .before .before .before .before .before .before .before .regs-of .ensures) (c .before .before .before .before .before .before .before .before .before .before .before .before .has-words .ensures) (c .before .before .before .before .before .before .before .before .before .before .before .if1 .taken) in omega (arith, f .words, f .high)
+    let f = words-there (c .before .before .before .before .before .before .before .before .before .before .before .before .before .before .before .before .args .m) _ 2 _ (c .before .before .before .before .before .before .before .before .before .before .before .before .before .before .before .before .pre .0) (c .before .before .before .before .before .before .before .before .before .before .before .before .before .before .before .before .pre .1) (c .before .before .before .before .before .before .before .before .before .before .before .before .has-words .ensures) (c .before .before .before .before .before .before .before .before .before .before .before .if1 .taken) in omega (arith, f .words, f .high)
 
 passed-requires : tie.Need-passed-requires
 passed-requires c κs = search needs
@@ -52,17 +49,16 @@ same-length c = search needs
 
 returns : tie.Need-returns
 returns c =
-    λ k. let l : c .before .before .before .before .before .before .before .before .before .before .before .before .before .before .before .before .before .before .args .m .running < length (c .before .before .before .before .before .before .before .before .before .before .before .before .before .before .before .before .before .before .args .m .processes) = rw (simp length-map at (c .before .before .before .before .before .before .before .before .before .before .before .before .before .before .before .before .before .before .good .0 .1 .1 .0 .1 .0 .1)) (c .before .before .before .before .before .before .before .before .before .before .before .before .before .before .before .before .before .before .pre .0 .runs) in let e = has-words (c .before .before .before .before .before .before .before .before .before .before .before .before .before .before .before .before .before .before .args .m) _ 2 _ _ (c .before .before .before .before .before .before .before .before .before .before .before .before .before .before .before .before .regs-of .ensures) (c .before .before .before .before .before .before .before .before .before .before .before .before .before .before .before .has-words .ensures) (c .before .before .before .before .before .before .before .before .before .before .before .before .before .before .if1 .taken) in let a = rw (c .before .before .before .before .before .before .before .before .before .before .before .before .before .before .before .before .regs-of .ensures) at (c .before .before .before .before .before .before .before .before .before .before .before .before .stack-word .ensures) in let b = rw (c .before .before .before .before .before .before .before .before .before .before .before .before .before .before .before .before .regs-of .ensures) at (c .before .before .before .before .before .before .before .before .before .before .stack-word2 .ensures) in rw (c .goes .ensures, c .before .stop-job .ensures, c .before .before .passed .ensures, c .before .before .before .before .before .before .put .ensures, c .before .before .before .before .before .before .before .before .before .stop-answer .ensures, a, b, c .before .before .before .before .before .before .before .before .before .before .before .before .before .before .before .before .regs-of .ensures) (call5-goes (c .before .before .before .before .before .before .before .before .before .before .before .before .before .before .before .before .before .before .args .m) k _ l e)
+    λ k. let l : c .before .before .before .before .before .before .before .before .before .before .before .before .before .before .before .before .before .before .before .args .m .running < length (c .before .before .before .before .before .before .before .before .before .before .before .before .before .before .before .before .before .before .before .args .m .processes) = rw (simp length-map at (c .before .before .before .before .before .before .before .before .before .before .before .before .before .before .before .before .before .before .before .good .0 .1 .1 .0 .1 .0 .1)) (c .before .before .before .before .before .before .before .before .before .before .before .before .before .before .before .before .before .before .before .pre .0 .runs) in let e = has-words (c .before .before .before .before .before .before .before .before .before .before .before .before .before .before .before .before .before .before .before .args .m) _ 2 _ _ (c .before .before .before .before .before .before .before .before .before .before .before .before .before .before .before .before .before .before .before .pre .1) (c .before .before .before .before .before .before .before .before .before .before .before .before .before .before .before .has-words .ensures) (c .before .before .before .before .before .before .before .before .before .before .before .before .before .before .if1 .taken) in let a = rw (c .before .before .before .before .before .before .before .before .before .before .before .before .before .before .before .before .before .before .before .pre .1) at (c .before .before .before .before .before .before .before .before .before .before .before .before .stack-word .ensures) in let b = rw (c .before .before .before .before .before .before .before .before .before .before .before .before .before .before .before .before .before .before .before .pre .1) at (c .before .before .before .before .before .before .before .before .before .before .stack-word2 .ensures) in rw (c .goes .ensures, c .before .stop-job .ensures, c .before .before .passed .ensures, c .before .before .before .before .before .before .put .ensures, c .before .before .before .before .before .before .before .before .before .stop-answer .ensures, a, b, c .before .before .before .before .before .before .before .before .before .before .before .before .before .before .before .before .before .before .before .pre .1) (call5-goes (c .before .before .before .before .before .before .before .before .before .before .before .before .before .before .before .before .before .before .before .args .m) k _ l e)
 
 returns-2 : tie.Need-returns-2
 returns-2 c =
-    λ k. let e = has-words (c .before .before .before .before .before .args .m) _ 2 _ _ (c .before .before .before .regs-of .ensures) (c .before .before .has-words .ensures) (c .before .if1 .left) in rw (c .stops .ensures) (call5-few (c .before .before .before .before .before .args .m) k _ e)
+    λ k. let e = has-words (c .before .before .before .before .before .before .args .m) _ 2 _ _ (c .before .before .before .before .before .before .pre .1) (c .before .before .has-words .ensures) (c .before .if1 .left) in rw (c .stops .ensures) (call5-few (c .before .before .before .before .before .before .args .m) k _ e)
 
 pub call5-spec : {M : Type 1} → statement M
 call5-spec =
     tie.close
     (tie.spec
-    regs-of-requires
     has-words-requires
     stack-word-requires
     stack-word-requires-2

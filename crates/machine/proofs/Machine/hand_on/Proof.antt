@@ -1,9 +1,9 @@
 use lib.ListN.{length-map}
 use borrow.Author.Tests.{eq-eqb, ne-eqb}
-use borrow.Author.Needs.{needs}
 use Rattle.machine.specs.State.{noGate}
-use Rattle.machine.specs.Gate.{advance, handOn, pass}
+use Rattle.machine.specs.Gate.{advance, handOn}
 use Rattle.machine.proofs.Laws.{get-past}
+use borrow.Author.Needs.{needs}
 use Rattle.machine.proofs.Machine.hand_on.Statement.{statement}
 use Rattle.machine.proofs.Machine.hand_on.Tie as tie
 
@@ -26,16 +26,22 @@ returns-2 c =
 element-copy-out-h : tie.Need-element-copy-out-h
 element-copy-out-h c = search needs
 
-advance-requires : tie.Need-advance-requires
-advance-requires c κs = search needs
+rest-requires : tie.Need-rest-requires
+rest-requires c κs = search needs
+
+mul-w-2 : tie.Need-mul-w-2
+mul-w-2 c = search needs
+
+element-set-from-w : tie.Need-element-set-from-w
+element-set-from-w c = search needs
 
 pass-requires : tie.Need-pass-requires
 pass-requires c κs = search needs
 
 returns-3 : tie.Need-returns-3
-unfolding handOn
+unfolding handOn advance
 returns-3 c =
-    rw (c .pass .ensures, c .before .advance .ensures, ne-eqb _ _ (c .before .before .before .if2 .left))
+    rw (c .pass .ensures, c .before .rest .ensures, ne-eqb _ _ (c .before .before .before .if2 .left))
 
 pub hand-on-spec : {M : Type 1} → statement M
 hand-on-spec =
@@ -46,6 +52,8 @@ hand-on-spec =
     element-copy-out-w
     returns-2
     element-copy-out-h
-    advance-requires
+    rest-requires
+    mul-w-2
+    element-set-from-w
     pass-requires
     returns-3)

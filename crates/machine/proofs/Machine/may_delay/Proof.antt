@@ -12,7 +12,7 @@ cell-of-requires c κs = search needs
 returns : tie.Need-returns
 unfolding mayDelay
 returns c =
-    rw (c .before .may-continue .ensures, c .cell-of .ensures)
+    rw (c .before .before .may-continue .ensures, c .cell-of .ensures)
 
 pub may-delay-spec : {M : Type 1} → statement M
 may-delay-spec = tie.close (tie.spec may-continue-requires cell-of-requires returns)

@@ -12,7 +12,7 @@ holds-of-requires c κs = search needs
 returns : tie.Need-returns
 unfolding mayEnter
 returns c =
-    rw (c .before .before .holder-of .ensures, c .before .holds-of .ensures)
+    rw (c .before .before .before .holder-of .ensures, c .before .holds-of .ensures)
 
 pub may-enter-spec : {M : Type 1} → statement M
 may-enter-spec = tie.close (tie.spec holder-of-requires holds-of-requires returns)

@@ -1,22 +1,26 @@
-use mathlib.Core.Path.{sym, _∙_}
+use mathlib.Core.Path.{_≡_, sym, ap, _∙_}
+use mathlib.Core.Bool.{true, false, _&&_}
+use Prim.Native.Nat.{ℕ}
+use lib.Dec.{ltb}
+use Rattle.machine.specs.Classes.{best, selects}
+use Rattle.run.proofs.Ends as L
 use borrow.Author.Needs.{needs}
 use Rattle.run.proofs.turn.quota_of.Statement.{statement}
 use Rattle.run.proofs.turn.quota_of.Tie as tie
 use Rattle.run.proofs.turn.quota_of.Reads as reads
 use Rattle.run.proofs.turn.quota_of.Lts as lts
-use Rattle.machine.proofs.Machine.selects.Reads as selects-reads
 
--- src/turn.rt:102:9
-selects-requires : tie.Need-selects-requires
-selects-requires c κs = search needs
+-- src/turn.rt:108:9
+is-better-ready-requires : tie.Need-is-better-ready-requires
+is-better-ready-requires c κs = search needs
 
--- src/turn.rt:99:1
+-- src/turn.rt:105:1
 returns : tie.Need-returns
-returns c = rw (sym (c .before .selects .ensures) ∙ c .if1 .taken)
+returns c = λ m e r k. let h = c .before .is-better-ready .ensures m e in let z : selects m ≡ true = L.outranked m r ∙ ap (λ (n : ℕ). ltb (best m) n && ltb (best m) 3) k ∙ sym h ∙ c .if1 .taken in rw z
 
--- src/turn.rt:99:1
+-- src/turn.rt:105:1
 returns-2 : tie.Need-returns-2
-returns-2 c = rw (sym (c .before .selects .ensures) ∙ c .if1 .left)
+returns-2 c = λ m e r k. let h = c .before .is-better-ready .ensures m e in let z : selects m ≡ false = L.outranked m r ∙ ap (λ (n : ℕ). ltb (best m) n && ltb (best m) 3) k ∙ sym h ∙ c .if1 .left in rw z
 
 pub quota-of-spec : {M : Type 1} → statement M
-quota-of-spec = tie.close (tie.spec selects-requires returns returns-2)
+quota-of-spec = tie.close (tie.spec is-better-ready-requires returns returns-2)
