@@ -11,8 +11,8 @@ use machine::Machine;
 use machine::Process;
 use machine::Regs;
 
-// What a call is told of the machine: the caller's number and record, and the fields that are no arrays. It is read once, at
-// the door: each reading of a machine that is given by value keeps a copy of it.
+// What a call is told of the machine, read once, at the door: the caller's number and record, and the plain fields that calls
+// read. Each function that indexes the machine keeps a copy of it.
 pub struct Caller {
     pub number: u8,
     pub process: Process,
@@ -23,7 +23,7 @@ pub struct Caller {
     pub present: u16,
 }
 
-// A process of its number, from the processes alone: indexed in place, the whole machine would be copied.
+// A process of its number, from the processes alone: where the machine is indexed, all of it is copied.
 pub(crate) fn process_of(processes: [Process; 10], i: u8) -> Process
     requires { ⌜ i < 10 ⌝ }
     ensures { λ r. ⌜ r ≡ getD processes i noProcess ⌝ }

@@ -85,7 +85,7 @@ impl Gate {
 }
 
 impl Machine {
-    // ---- each in one function, on parts of the machine: a function that is given the machine by value keeps a copy of it
+    // ---- a process and a gate change in one function: each function that indexes the machine keeps a copy of it
     // h becomes holder of g.
     fn grant(mut self, g: u8, h: u8) -> Machine
         ensures { λ r. ⌜ r ≡ grant self g h ⌝ }
@@ -167,6 +167,7 @@ impl Machine {
         ensures { λ r. ⌜ r ≡ enter self g ⌝ }
     {
         let i = self.running;
+        // a gate that is not there has a holder, 0: the caller waits
         if 25 <= g {
             self.running = 10;
             return self;
@@ -201,6 +202,7 @@ impl Machine {
     pub fn continue_cell(mut self, g: u8, c: u8) -> Machine
         ensures { λ r. ⌜ r ≡ continue self g c ⌝ }
     {
+        // a gate that is not there has process 0 in each cell
         if 25 <= g {
             return self.give_up(g).pass(g, 0);
         }

@@ -1,13 +1,13 @@
 -- How a burst of a sound state ends, and what the code that follows it needs
 use mathlib.Core.Path.{_≡_, refl, sym, ap, subst, _∙_}
-use mathlib.Core.Bool.{Bool, true, false, _&&_, and-false}
+use mathlib.Core.Bool.{Bool, true, false, and-false}
 use mathlib.Core.List.{List}
 use Prim.Native.Nat.{ℕ, zero, suc, _+_, _-_, _*_, _<_, _≤_}
 use native.Mathlib.Omega.{arith}
 use lib.ListN.{length, set, take, drop}
 use lib.Seq.{drop-drop}
 use lib.Dec.{ltb}
-use borrow.Author.Tests.{lt-ltb, le-leb, lt-leb}
+use borrow.Author.Tests.{lt-ltb, le-leb}
 use borrow.Rule.Slice.PartMut.{midOf, putMid}
 use Rattle.notation.proofs.Upto.{split}
 use Rattle.machine.specs.declared.Regs.{Regs}
@@ -17,7 +17,7 @@ use Rattle.machine.specs.State.{nobody, proc, floorOf, with, withProcess, withR
 use Rattle.machine.specs.Store.{World, partOf, withPart}
 use Rattle.machine.specs.View.{View, Out, next, faults, calls, Effect}
 use Rattle.machine.specs.Instruction.{instruct}
-use Rattle.machine.specs.Classes.{best, selects}
+use Rattle.machine.specs.Classes.{selects}
 use Rattle.machine.specs.Call.{Called, on, starts, stops, kernel}
 use Rattle.machine.specs.Step.{view, Stepped, called}
 use Rattle.promises.proofs.Runs.{at-most, job-high}
@@ -52,11 +52,6 @@ module _ (code : List ℕ) (i : ℕ) (p : Process) (quota : ℕ) (common q : Lis
       let v : view code (world m common q) ≡ seenBy (partOf i q) = rw (r, s) in
       let h : record { burst = x; common = c; own = o } ≡ bursts quota (seenBy (partOf i q)) = rw z at e in
       rw (v, r) (ap (λ (b : Bursted). b .burst) h, ap (λ (b : Bursted). b .common) h, rw (z, ap (λ (b : Bursted). b .own) h, drop-drop 2048 (2048 * i) q))
-
--- ---- a process that runs is displaced where a class before its own is ready
-pub outranked : (m : Machine) → m .running < nobody → selects m ≡ (ltb (best m) ((proc m (m .running)) .class) && ltb (best m) 3)
-unfolding selects
-outranked m l = rw (lt-leb _ _ l)
 
 -- ---- the running process put back with its new registers
 pub put-back : (m : Machine) (p q : Process) → p ≡ q → with m (set (m .processes) (m .running) p) (m .gates) (m .ready) (m .running) ≡ withProcess m (m .running) q
