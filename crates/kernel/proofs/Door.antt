@@ -9,7 +9,6 @@ use lib.ListN.{length}
 use borrow.Author.Tests.{ltb-true, eqb-true, lt-ltb, le-ltb, ne-eqb}
 use Rattle.notation.proofs.Upto.{both, NoneOf, none-past}
 use Rattle.machine.specs.declared.Regs.{Regs}
-use Rattle.machine.specs.declared.Process.{Process}
 use Rattle.machine.specs.declared.Device.{Device}
 use Rattle.machine.specs.declared.Machine.{Machine}
 use Rattle.machine.specs.State.{nobody, proc, device}
@@ -51,14 +50,6 @@ pub ready-caller : (m : Machine) (who : Caller) (able : Bool) → m .running < 1
     → able ≡ (leb 1 (who .created) && leb (who .made) 25 && leb 2048 (who .process .regs .s) && leb (who .process .regs .s) (who .process .regs .b) && leb (who .process .regs .b) 4096 && leb (who .process .regs .address) 16256)
     → able ≡ ready m
 ready-caller m who able l e f = rw (f, e, lt-ltb (m .running) 10 l)
-
--- the caller as the door tells of it, its process read from the processes alone
-abbrev told : Machine → Process → Caller
-told m p =
-    record { number = m .running; process = p; seconds = m .seconds; created = m .created; made = m .made; length = m .length; present = m .present }
-
-pub told-of : (m : Machine) (p : Process) → p ≡ proc m (m .running) → told m p ≡ callerOf m
-told-of m p e = ap (told m) e
 
 pub record Fit (m : Machine) (c q : List ℕ) : Type 0 where
   pub ready : Ready m

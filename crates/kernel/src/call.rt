@@ -9,7 +9,6 @@ use crate::answer::Answer;
 use crate::answer::stops;
 use crate::answer::unfit;
 use crate::caller::Caller;
-use crate::caller::process_of;
 use crate::create;
 use crate::io;
 use crate::on_gate;
@@ -61,8 +60,7 @@ pub fn trap(m: Machine, k: u16, common: &mut [u16], private: &mut [u16]) -> Answ
     if 10 <= i {
         return unfit(m);
     }
-    let processes = m.processes;
-    let process = process_of(processes, i);
+    let process = m.processes[i as usize];
     let who = Caller {
         number: i,
         process,

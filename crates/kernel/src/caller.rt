@@ -3,7 +3,6 @@ ghost use mathlib.Core.Path.{_≡_};
 ghost use Prim.Native.Nat.{_+_, _*_, _-_, _<_, _≤_};
 ghost use lib.Dec.{leb};
 ghost use lib.ListN.{length, getD, set};
-ghost use Rattle.machine.specs.State.{noProcess};
 ghost use Rattle.machine.specs.Store.{own};
 ghost use Rattle.machine.specs.Call.{passed};
 ghost use Rattle.kernel.specs.Did.{Ready, callerOf};
@@ -21,14 +20,6 @@ pub struct Caller {
     pub made: u8,
     pub length: u16,
     pub present: u16,
-}
-
-// A process of its number, from the processes alone: where the machine is indexed, all of it is copied.
-pub(crate) fn process_of(processes: [Process; 10], i: u8) -> Process
-    requires { ⌜ i < 10 ⌝ }
-    ensures { λ r. ⌜ r ≡ getD processes i noProcess ⌝ }
-{
-    processes[i as usize]
 }
 
 pub(crate) fn wide(x: u16) -> usize

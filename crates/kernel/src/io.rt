@@ -115,19 +115,19 @@ fn begin(
     let i = who.number;
     let process = who.process;
     let r = process.regs;
-    let next = passed(m, who, r.s + 2);
+    let s = r.s + 2;
     let bell = is_for_bell(who.present, d, operation);
     if bell {
         store(i, a + 1, 0, common, private);
-        return goes(next.bell_wait());
+        return goes(passed(m, who, s).bell_wait());
     }
     let refused = is_refused(m, who.present, d);
     if refused {
         store(i, a + 1, 3, common, private);
-        return goes(next);
+        return goes(passed(m, who, s));
     }
     store(i, a + 1, 0, common, private);
-    let machine = next.device_start(d as u8, operation as u8, a);
+    let machine = passed(m, who, s).device_start(d as u8, operation as u8, a);
     Answer {
         machine,
         end: End::Starts(d as u8),

@@ -9,7 +9,8 @@ use lib.ListN.{length, getD, set, List·getD-eq-default}
 use lib.Seq.{set-out}
 use borrow.Author.Tests.{ltb-true, lt-ltb, le-ltb, le-leb, lt-leb, eq-eqb, ne-eqb}
 use borrow.Author.Needs.{needs}
-use Rattle.notation.proofs.Upto.{both}
+use Rattle.notation.specs.If.{if}
+use Rattle.notation.proofs.Upto.{both, below?}
 use Rattle.machine.specs.declared.Machine.{Machine}
 use Rattle.machine.specs.State.{nobody, proc}
 use Rattle.machine.specs.Classes.{best, selects}
@@ -66,6 +67,13 @@ module _ (m : Machine) (b : ℕ) (e : b ≡ best m) where
   pub over-running : m .running < nobody → (ltb b ((proc m (m .running)) .class) && ltb b 3) ≡ selects m
   unfolding selects
   over-running l = rw (lt-leb _ _ l, e)
+
+  -- over whoever runs: nobody's class is 3
+  pub over-all : (c : ℕ) → c ≡ if (ltb (m .running) 10) ((proc m (m .running)) .class) 3 → (ltb b c && ltb b 3) ≡ selects m
+  over-all c f =
+      below? (m .running) 10
+      (λ l. rw f (rw (lt-ltb (m .running) 10 l) (over-running l)))
+      (λ l. rw f (rw (le-ltb (m .running) 10 l) (over-nobody l)))
 
 pub is-ready : (b c : ℕ) → (ltb b c && ltb b 3) ≡ true → b < 3
 is-ready b c e = ltb-true b 3 (both (ltb b c) (ltb b 3) e .1)

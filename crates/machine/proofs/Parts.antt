@@ -1,16 +1,23 @@
--- A gate given up and a cell of it changed, in either order; and what is asked and changed where there is no such process or gate
+-- A gate given up and a cell of it changed, a child made and placed, in either order; and what is asked and changed where there is
+-- no such process or gate
 use mathlib.Core.Path.{_≡_, refl}
-use mathlib.Core.Bool.{Bool, true, false, _&&_}
+use mathlib.Core.Bool.{Bool, true, false, _&&_, _||_}
 use Prim.Native.Nat.{ℕ, _≤_, _<_}
 use native.Mathlib.Omega.{arith}
 use lib.Dec.{eqb, ltb}
 use lib.ListN.{length, set}
 use lib.Seq.{getD-set-same, set-set}
+use borrow.Author.Tests.{lt-ltb, le-ltb}
+use Rattle.notation.specs.If.{if}
+use Rattle.notation.proofs.Upto.{split, below?}
 use Rattle.machine.specs.declared.Gate.{Gate}
 use Rattle.machine.specs.declared.Process.{Process}
 use Rattle.machine.specs.declared.Machine.{Machine}
-use Rattle.machine.specs.State.{nobody, noGate, noProcess, gate, withProcess}
-use Rattle.machine.specs.Gate.{giveUp, latest, mayLeave, sit}
+use Rattle.machine.specs.State.{nobody, noGate, noProcess, gate, proc, started, withProcess}
+use Rattle.machine.specs.Classes.{push, setRunning, someReady, wake}
+use Rattle.machine.specs.Queue.{first, rest}
+use Rattle.machine.specs.Gate.{advance, given, giveUp, handOn, latest, mayLeave, pass, sit, withGate}
+use Rattle.machine.specs.Call.{born, placeChild}
 use Rattle.machine.proofs.Laws.{get-past, set-past}
 
 -- the gate with x in its cell, and the gate given up
@@ -21,7 +28,7 @@ abbrev opened : Machine → ℕ → Gate
 opened m g = record { holder = nobody; queue = (gate m g) .queue; cells = (gate m g) .cells }
 
 module _ (m : Machine) (g c x i : ℕ) (long : length (m .gates) ≡ 25) where
-  pub empties-first : g < 25 → giveUp (sit m g c x) g i ≡ sit (giveUp m g i) g c x
+  empties-first : g < 25 → giveUp (sit m g c x) g i ≡ sit (giveUp m g i) g c x
   unfolding giveUp sit
   empties-first l =
       let within : g < length (m .gates) = omega (arith, long, l) in
@@ -32,9 +39,47 @@ module _ (m : Machine) (g c x i : ℕ) (long : length (m .gates) ≡ 25) where
         set-set (m .gates) g (opened m g) _,
       )
 
+  pub seated-first : giveUp (sit m g c x) g i ≡ sit (giveUp m g i) g c x
+  unfolding giveUp sit
+  seated-first =
+      below? g 25 empties-first
+      (λ l. rw (set-past (m .gates) 25 g long l (seated m g c x), set-past (m .gates) 25 g long l (opened m g), set-past (m .gates) 25 g long l (seated m g c x)))
+
   pub nowhere-to-sit : 25 ≤ g → sit (giveUp m g i) g c x ≡ giveUp m g i
   unfolding giveUp sit
   nowhere-to-sit l = rw (set-past (m .gates) 25 g long l (opened m g), set-past (m .gates) 25 g long l _)
+
+-- a gate given up and handed on, its holder and its waiters written at once
+module _ (m : Machine) (g i : ℕ) (long : length (m .gates) ≡ 25) where
+  pub released-nowhere : 25 ≤ g → withProcess m i (given (proc m i)) ≡ handOn (giveUp m g i) g
+  unfolding giveUp handOn withProcess
+  released-nowhere l = rw (set-past (m .gates) 25 g long l (opened m g), get-past (m .gates) 25 g long l noGate)
+
+  pub released-open : g < 25 → eqb ((gate m g) .queue .len) 0 ≡ true → giveUp m g i ≡ handOn (giveUp m g i) g
+  unfolding giveUp handOn
+  released-open l e = rw (getD-set-same (m .gates) g (opened m g) noGate (omega (arith, long, l)), e)
+
+  pub released-on : g < 25 → eqb ((gate m g) .queue .len) 0 ≡ false
+      → pass (withGate (withProcess m i (given (proc m i))) g nobody (rest ((gate m g) .queue)) ((gate m g) .cells)) g (first ((gate m g) .queue)) ≡ handOn (giveUp m g i) g
+  unfolding giveUp handOn advance withProcess
+  released-on l e =
+      rw (getD-set-same (m .gates) g (opened m g) noGate (omega (arith, long, l)), e, set-set (m .gates) g (opened m g) (record { holder = nobody; queue = rest ((gate m g) .queue); cells = (gate m g) .cells }))
+
+-- the class of a child that is made: it starts in class 2, and of an eleventh there is no record
+module _ (m : Machine) (t v : ℕ) (long : length (m .processes) ≡ 10) where
+  child-class : (proc (born m t v) (m .created)) .class ≡ if (ltb (m .created) 10) 2 0
+  unfolding born started
+  child-class =
+      below? (m .created) 10
+      (λ l. rw (lt-ltb (m .created) 10 l, getD-set-same (m .processes) (m .created) (started t v) noProcess (omega (arith, long, l))))
+      (λ l. rw (le-ltb (m .created) 10 l, set-past (m .processes) 10 (m .created) long l (started t v), get-past (m .processes) 10 (m .created) long l noProcess))
+
+  pub placed-first : born (if (someReady m 0 || someReady m 1) (push m (if (ltb (m .created) 10) 2 0) (m .created)) (setRunning m (m .created))) t v ≡ placeChild (born m t v) (m .created)
+  unfolding born placeChild push setRunning wake
+  placed-first =
+      split (someReady m 0 || someReady m 1)
+      (λ w. rw (w, ← child-class))
+      (λ w. rw w)
 
 -- who holds nothing leaves nothing
 and-not : (a b : Bool) → false ≡ (a && false && b)

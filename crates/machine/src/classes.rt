@@ -3,9 +3,13 @@ ghost use mathlib.Core.Path.{_≡_};
 ghost use mathlib.Core.Bool.{_&&_};
 ghost use Prim.Native.Nat.{_<_};
 ghost use lib.Dec.{ltb};
+ghost use lib.ListN.{getD};
+ghost use Rattle.notation.specs.If.{if};
 ghost use Rattle.machine.specs.declared.Machine.{Machine};
+ghost use Rattle.machine.specs.State.{noProcess};
 ghost use Rattle.machine.specs.Classes.{setRunning, push, wake, best, start, select};
 use crate::Machine;
+use crate::Process;
 use crate::Queue;
 
 impl Machine {
@@ -53,25 +57,36 @@ impl Machine {
         self
     }
 
-    // A strictly better class that is ready displaces the running process.
+    // A strictly better class that is ready displaces the running process. The class is read from the processes alone: where
+    // the machine is indexed, all of it is copied.
     pub fn select(self) -> Machine
         ensures { λ r. ⌜ r ≡ select self ⌝ }
     {
-        let best = best_of(self.ready);
+        let ready = self.ready;
+        let best = best_of(ready);
         let i = self.running;
-        if 10 <= i {
-            let now = displaces(best, 3);
-            if now {
-                return self.start(best);
-            }
-            return self;
-        }
-        let p = self.processes[i as usize];
-        let now = displaces(best, p.class);
+        let processes = self.processes;
+        let class = class_of(processes, i);
+        let now = displaces(best, class);
         if !now {
             return self;
         }
+        if 10 <= i {
+            return self.start(best);
+        }
         self.set_running(10).wake(i).start(best)
+    }
+}
+
+// The class of process i; 3 is nobody's.
+fn class_of(processes: [Process; 10], i: u8) -> u8
+    ensures { λ r. ⌜ r ≡ if (ltb i 10) ((getD processes i noProcess) .class) 3 ⌝ }
+{
+    if i < 10 {
+        let p = processes[i as usize];
+        p.class
+    } else {
+        3
     }
 }
 

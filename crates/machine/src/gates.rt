@@ -85,7 +85,7 @@ impl Gate {
 }
 
 impl Machine {
-    // ---- a process and a gate change in one function: each function that indexes the machine keeps a copy of it
+    // ---- a process and a gate change in one function, in place: each function that indexes the machine keeps a copy of it
     // h becomes holder of g.
     fn grant(mut self, g: u8, h: u8) -> Machine
         ensures { λ r. ⌜ r ≡ grant self g h ⌝ }
@@ -142,16 +142,23 @@ impl Machine {
         self.grant(g, h).wake(h)
     }
 
-    // The first waiter holds, else the gate, given up before, is open.
-    fn hand_on(mut self, g: u8) -> Machine
-        ensures { λ r. ⌜ r ≡ handOn self g ⌝ }
+    // i gives g up: the first waiter holds, else the gate opens.
+    fn release(mut self, g: u8, i: u8) -> Machine
+        ensures { λ r. ⌜ r ≡ handOn (giveUp self g i) g ⌝ }
     {
+        if i < 10 {
+            let p = self.processes[i as usize];
+            let fewer = p.given();
+            self.processes[i as usize] = fewer;
+        }
         if 25 <= g {
             return self;
         }
         let mut w = self.gates[g as usize];
         let q = w.queue;
+        w.holder = 10;
         if q.len == 0 {
+            self.gates[g as usize] = w;
             return self;
         }
         let h = q.at[0];
@@ -173,14 +180,21 @@ impl Machine {
             return self;
         }
         let mut w = self.gates[g as usize];
-        if 10 <= w.holder {
-            return self.grant(g, i);
+        if w.holder < 10 {
+            let q = w.queue;
+            let last = q.pushed(i);
+            w.queue = last;
+            self.gates[g as usize] = w;
+            self.running = 10;
+            return self;
         }
-        let q = w.queue;
-        let more = q.pushed(i);
-        w.queue = more;
+        if i < 10 {
+            let p = self.processes[i as usize];
+            let more = p.entered(g);
+            self.processes[i as usize] = more;
+        }
+        w.holder = i;
         self.gates[g as usize] = w;
-        self.running = 10;
         self
     }
 
@@ -188,14 +202,16 @@ impl Machine {
     pub fn leave(self, g: u8) -> Machine
         ensures { λ r. ⌜ r ≡ leave self g ⌝ }
     {
-        self.give_up(g).hand_on(g)
+        let i = self.running;
+        self.release(g, i)
     }
 
     // The caller sits in the cell, and the gate is given up as in leave.
     pub fn delay(self, g: u8, c: u8) -> Machine
         ensures { λ r. ⌜ r ≡ delay self g c ⌝ }
     {
-        self.give_up(g).sit_down(g, c).hand_on(g)
+        let i = self.running;
+        self.sit_down(g, c).release(g, i)
     }
 
     // The caller is out; the process in the cell holds, before all that wait, or if the cell is empty, as in leave.

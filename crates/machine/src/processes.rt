@@ -5,7 +5,8 @@ ghost use Prim.Native.Nat.{_<_};
 ghost use lib.Dec.{eqb, ltb};
 ghost use Rattle.notation.specs.If.{if};
 ghost use Rattle.machine.specs.State.{proc, withProcess, withRegs};
-ghost use Rattle.machine.specs.Call.{born, placeChild, createProcess, finish, stopAnswer, stopping, stopJob};
+ghost use Rattle.machine.specs.Classes.{push, setRunning, someReady};
+ghost use Rattle.machine.specs.Call.{born, createProcess, finish, stopAnswer, stopping, stopJob};
 use crate::Machine;
 use crate::Process;
 use crate::Regs;
@@ -32,21 +33,26 @@ impl Machine {
         self.with_process(child, Process::started(t, v))
     }
 
-    // The child runs if classes 0 and 1 are empty, else it joins class 2.
+    // The child runs if classes 0 and 1 are empty, else it joins class 2; of an eleventh there is no record, and its class is 0.
     fn place_child(self, child: u8) -> Machine
-        ensures { λ r. ⌜ r ≡ placeChild self child ⌝ }
+        ensures { λ r. ⌜ r ≡ if (someReady self 0 || someReady self 1) (push self (if (ltb child 10) 2 0) child) (setRunning self child) ⌝ }
     {
         let first = self.ready[0];
         let second = self.ready[1];
         let waits = (0 < first.len) | (0 < second.len);
         if waits {
-            self.wake(child)
+            if child < 10 {
+                self.push(2, child)
+            } else {
+                self.push(0, child)
+            }
         } else {
             self.set_running(child)
         }
     }
 
-    // The parent goes to the tail of its class, then the child is placed.
+    // The parent goes to the tail of its class, and the child is placed. Its record is written last, in place: where a plain field
+    // is, the optimiser takes the machine apart, and copies it once more.
     pub fn create_process(self, t: u16, v: u16) -> Machine
         ensures { λ r. ⌜ r ≡ createProcess self t v ⌝ }
     {
@@ -54,8 +60,8 @@ impl Machine {
         let child = self.created;
         self.set_running(10)
             .wake(parent)
-            .born(t, v)
             .place_child(child)
+            .born(t, v)
     }
 
     // ---- call 4

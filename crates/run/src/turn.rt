@@ -7,11 +7,11 @@ ghost use Rattle.machine.specs.declared.Machine.{Machine};
 ghost use Rattle.machine.specs.State.{proc, timed, withRegs};
 ghost use Rattle.machine.specs.Store.{withPart};
 ghost use Rattle.machine.specs.Call.{kernel};
-ghost use Rattle.machine.specs.Step.{view, onward, stepped, selected, halted, called};
+ghost use Rattle.machine.specs.Step.{view, stopped, stepped, selected, halted, called};
 ghost use Rattle.machine.specs.Run.{run};
 ghost use Rattle.engine.specs.Burst.{bursts};
 ghost use Rattle.run.specs.Turn.{later, turn, quotaOf};
-ghost use Rattle.run.specs.Said.{world};
+ghost use Rattle.run.specs.Said.{world, endOf};
 ghost use Rattle.run.specs.Ran.{ran, isOnward, Accepted, settles, Small, Callable};
 use crate::answer::Ended;
 use crate::answer::Ran;
@@ -43,12 +43,13 @@ fn with_regs(mut p: Process, r: Regs) -> Process
     p
 }
 
-fn goes_on(m: Machine, count: u32) -> Ran
-    ensures { λ x. ⌜ ((c q : List ℕ) → ran x c q ≡ stepped (selected (world m c q)) onward count) ⌝ }
+// The selection.
+fn goes_on(m: Machine, ended: Ended, count: u32) -> Ran
+    ensures { λ x. ⌜ ((c q : List ℕ) → ran x c q ≡ stepped (selected (world m c q)) (endOf ended) count) ⌝ }
 {
     Ran {
         machine: m.select(),
-        ended: Ended::Onward,
+        ended,
         count,
     }
 }
@@ -64,26 +65,28 @@ fn stops(m: Machine, f: u16, count: u32) -> Ran
     }
 }
 
+// No process or no store was fit to go on: from a sound state none is.
+fn unfit(m: Machine, count: u32) -> Ran
+    ensures { λ x. ⌜ ((c q : List ℕ) → ran x c q ≡ stepped (world m c q) stopped count) ⌝ }
+{
+    Ran {
+        machine: m,
+        ended: Ended::Stopped,
+        count,
+    }
+}
+
 // What follows a kernel call.
 fn settle(a: Answer, count: u32) -> Ran
     requires { ⌜ Small (a .end) (a .machine) × (count < 4294967295) ⌝ }
     ensures { λ x. ⌜ ((c q : List ℕ) → ran x c q ≡ later count (settles (a .end) (world (a .machine) c q))) ⌝ }
 {
-    let m = a.machine;
     let end = a.end;
     match end {
-        kernel::End::On => goes_on(m, count + 1),
-        kernel::End::Starts(d) => Ran {
-            machine: m.select(),
-            ended: Ended::Starting(d),
-            count: count + 1,
-        },
-        kernel::End::Stops(f) => stops(m, f, count),
-        kernel::End::Unfit => Ran {
-            machine: m,
-            ended: Ended::Stopped,
-            count,
-        },
+        kernel::End::On => goes_on(a.machine, Ended::Onward, count + 1),
+        kernel::End::Starts(d) => goes_on(a.machine, Ended::Starting(d), count + 1),
+        kernel::End::Stops(f) => stops(a.machine, f, count),
+        kernel::End::Unfit => unfit(a.machine, count),
     }
 }
 
@@ -131,8 +134,8 @@ fn burst(
     )
 }
 
-// What follows the burst: from a sound state none is unfit.
-fn turn(m: Machine, code: &[u16], budget: u32, common: &mut [u16], private: &mut [u16]) -> Ran
+// A burst, and what follows it.
+fn turn(mut m: Machine, code: &[u16], budget: u32, common: &mut [u16], private: &mut [u16]) -> Ran
     requires { ⌜ Accepted (now code) (world m (now common) (now private)) × (m .running < 10) × (0 < budget) ⌝ }
     ensures { λ x. ⌜ ran x (now (common .exit)) (now (private .exit)) ≡ turn (now (code .entry)) (quotaOf m budget) (world m (now (common .entry)) (now (private .entry))) ⌝ }
 {
@@ -144,18 +147,13 @@ fn turn(m: Machine, code: &[u16], budget: u32, common: &mut [u16], private: &mut
     let count = x.count;
     let end = x.end;
     let new = with_regs(p, regs);
-    let mut moved = m;
-    moved.processes[i as usize] = new;
+    m.processes[i as usize] = new;
     match end {
-        engine::End::Budget => goes_on(moved, count),
-        engine::End::Job => goes_on(moved, count),
-        engine::End::Call(k) => call(moved, k, count, common, private),
-        engine::End::Fault(f) => stops(moved, f, count),
-        engine::End::Unfit => Ran {
-            machine: moved,
-            ended: Ended::Stopped,
-            count: 0,
-        },
+        engine::End::Budget => goes_on(m, Ended::Onward, count),
+        engine::End::Job => goes_on(m, Ended::Onward, count),
+        engine::End::Call(k) => call(m, k, count, common, private),
+        engine::End::Fault(f) => stops(m, f, count),
+        engine::End::Unfit => unfit(m, 0),
     }
 }
 

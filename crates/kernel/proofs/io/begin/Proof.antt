@@ -9,15 +9,10 @@ use Rattle.kernel.proofs.Records.{begins-bell, begins-device, begins-re
 use Rattle.kernel.proofs.io.begin.Statement.{statement}
 use Rattle.kernel.proofs.io.begin.Tie as tie
 
-add-passed : tie.Need-add-passed
-add-passed c =
-    let a = c .before .before .before .before .before .args in
-    let pre = c .before .before .before .before .before .pre in
-    let m = a .m in
-    omega (arith, ap (λ (w : Caller). w .process .regs .s) (pre .1), leb-true (regs m .s + 2) (regs m .b) (pre .2), pre .0 .high)
-
-passed-requires : tie.Need-passed-requires
-passed-requires c κs = search needs
+add-s : tie.Need-add-s
+add-s c =
+    let m = c .before .before .before .before .before .args .m in
+    omega (arith, ap (λ (w : Caller). w .process .regs .s) (c .before .before .before .before .before .pre .1), leb-true (regs m .s + 2) (regs m .b) (c .before .before .before .before .before .pre .2), c .before .before .before .before .before .pre .0 .high)
 
 is-for-bell-requires : tie.Need-is-for-bell-requires
 is-for-bell-requires c κs = search needs
@@ -27,8 +22,10 @@ add-store c = search needs
 
 store-requires : tie.Need-store-requires
 store-requires c κs =
-    let pre = c .before .before .before .before .before .before .before .before .before .before .pre in
-    (rw (pre .1) (pre .0 .runs), omega (arith, pre .5), pre .7, pre .8)
+    (rw (c .before .before .before .before .before .before .before .before .before .pre .1) (c .before .before .before .before .before .before .before .before .before .pre .0 .runs), omega (arith, c .before .before .before .before .before .before .before .before .before .pre .5), c .before .before .before .before .before .before .before .before .before .pre .7, c .before .before .before .before .before .before .before .before .before .pre .8)
+
+passed-requires : tie.Need-passed-requires
+passed-requires c κs = search needs
 
 bell-wait-requires : tie.Need-bell-wait-requires
 bell-wait-requires c κs = search needs
@@ -46,25 +43,20 @@ returns : tie.Need-returns
 returns c =
     let a = c .before .before .before .before .before .before .before .before .before .before .before .before .before .before .before .before .before .args in
     let pre = c .before .before .before .before .before .before .before .before .before .before .before .before .before .before .before .before .before .pre in
-    let gone = c .before .before .before .before .before .before .before .before .before .before .before .passed in
-    let bell = c .before .before .before .before .before .before .before .before .before .before .is-for-bell in
-    let rings = c .before .before .before .before .before .before .before .before .before .if1 in
-    let told = c .before .before .before .before .before .before .store in
-    rw (c .goes .ensures, c .before .bell-wait .ensures, gone .ensures, told .ensures .0, told .ensures .1, ← begins-bell (a .m) (a .common .now) (a .private .now) (a .who) (a .d) (a .operation) (a .a) (pre .1) (pre .6) (sym (bell .ensures (a .m) (told-present (a .m) (a .who) (pre .1))) ∙ rings .taken))
+    rw (c .goes .ensures, c .before .bell-wait .ensures, c .before .before .passed .ensures, c .before .before .before .before .before .before .before .store .ensures .0, c .before .before .before .before .before .before .before .store .ensures .1, ← begins-bell (a .m) (a .common .now) (a .private .now) (a .who) (a .d) (a .operation) (a .a) (pre .1) (pre .6) (sym (c .before .before .before .before .before .before .before .before .before .before .before .is-for-bell .ensures (a .m) (told-present (a .m) (a .who) (pre .1))) ∙ c .before .before .before .before .before .before .before .before .before .before .if1 .taken))
 
 is-refused-requires : tie.Need-is-refused-requires
-is-refused-requires c κs =
-    let a = c .before .before .before .before .before .before .before .before .args in
-    let pre = c .before .before .before .before .before .before .before .before .pre in
-    (pre .3, told-present (a .m) (a .who) (pre .1))
+is-refused-requires c κs = (c .before .before .before .before .before .before .before .pre .3, told-present (c .before .before .before .before .before .before .before .args .m) (c .before .before .before .before .before .before .before .args .who) (c .before .before .before .before .before .before .before .pre .1))
 
 add-store-2 : tie.Need-add-store-2
 add-store-2 c = search needs
 
 store-requires-2 : tie.Need-store-requires-2
 store-requires-2 c κs =
-    let pre = c .before .before .before .before .before .before .before .before .before .before .before .before .pre in
-    (rw (pre .1) (pre .0 .runs), omega (arith, pre .5), pre .7, pre .8)
+    (rw (c .before .before .before .before .before .before .before .before .before .before .before .pre .1) (c .before .before .before .before .before .before .before .before .before .before .before .pre .0 .runs), omega (arith, c .before .before .before .before .before .before .before .before .before .before .before .pre .5), c .before .before .before .before .before .before .before .before .before .before .before .pre .7, c .before .before .before .before .before .before .before .before .before .before .before .pre .8)
+
+passed-requires-2 : tie.Need-passed-requires-2
+passed-requires-2 c κs = search needs
 
 goes-requires-2 : tie.Need-goes-requires-2
 goes-requires-2 c κs = search needs
@@ -79,35 +71,29 @@ returns-2 : tie.Need-returns-2
 returns-2 c =
     let a = c .before .before .before .before .before .before .before .before .before .before .before .before .before .before .before .before .before .before .args in
     let pre = c .before .before .before .before .before .before .before .before .before .before .before .before .before .before .before .before .before .before .pre in
-    let gone = c .before .before .before .before .before .before .before .before .before .before .before .before .passed in
-    let bell = c .before .before .before .before .before .before .before .before .before .before .before .is-for-bell in
-    let rings = c .before .before .before .before .before .before .before .before .before .before .if1 in
-    let refused = c .before .before .before .before .before .before .before .before .before .is-refused in
-    let may = c .before .before .before .before .before .before .before .before .if2 in
-    let told = c .before .before .before .before .before .store2 in
-    rw (c .goes2 .ensures, gone .ensures, told .ensures .0, told .ensures .1, ← begins-refused (a .m) (a .common .now) (a .private .now) (a .who) (a .d) (a .operation) (a .a) (pre .1) (pre .6) (sym (bell .ensures (a .m) (told-present (a .m) (a .who) (pre .1))) ∙ rings .left) (sym (refused .ensures) ∙ may .taken))
+    rw (c .goes2 .ensures, c .before .passed2 .ensures, c .before .before .before .before .before .before .store2 .ensures .0, c .before .before .before .before .before .before .store2 .ensures .1, ← begins-refused (a .m) (a .common .now) (a .private .now) (a .who) (a .d) (a .operation) (a .a) (pre .1) (pre .6) (sym (c .before .before .before .before .before .before .before .before .before .before .before .before .is-for-bell .ensures (a .m) (told-present (a .m) (a .who) (pre .1))) ∙ c .before .before .before .before .before .before .before .before .before .before .before .if1 .left) (sym (c .before .before .before .before .before .before .before .before .before .before .is-refused .ensures) ∙ c .before .before .before .before .before .before .before .before .before .if2 .taken))
 
 add-store-3 : tie.Need-add-store-3
 add-store-3 c = search needs
 
 store-requires-3 : tie.Need-store-requires-3
 store-requires-3 c κs =
-    let pre = c .before .before .before .before .before .before .before .before .before .before .before .before .pre in
-    (rw (pre .1) (pre .0 .runs), omega (arith, pre .5), pre .7, pre .8)
+    (rw (c .before .before .before .before .before .before .before .before .before .before .before .pre .1) (c .before .before .before .before .before .before .before .before .before .before .before .pre .0 .runs), omega (arith, c .before .before .before .before .before .before .before .before .before .before .before .pre .5), c .before .before .before .before .before .before .before .before .before .before .before .pre .7, c .before .before .before .before .before .before .before .before .before .before .before .pre .8)
+
+passed-requires-3 : tie.Need-passed-requires-3
+passed-requires-3 c κs = search needs
 
 cast-device-start : tie.Need-cast-device-start
-cast-device-start c = search needs
+cast-device-start c = omega (arith, c .before .before .before .before .before .before .before .before .before .before .before .before .before .before .before .before .before .pre .3)
 
 cast-device-start-2 : tie.Need-cast-device-start-2
-cast-device-start-2 c = search needs
+cast-device-start-2 c = omega (arith, c .before .before .before .before .before .before .before .before .before .before .before .before .before .before .before .before .before .pre .4)
 
 device-start-requires : tie.Need-device-start-requires
 device-start-requires c κs = search needs
 
-cast-t35 : tie.Need-cast-t35
-cast-t35 c =
-    let pre = c .before .before .before .before .before .before .before .before .before .before .before .before .before .before .before .before .before .before .pre in
-    omega (arith, pre .3)
+cast-t38 : tie.Need-cast-t38
+cast-t38 c = omega (arith, c .before .before .before .before .before .before .before .before .before .before .before .before .before .before .before .before .before .before .pre .3)
 
 same-length-5 : tie.Need-same-length-5
 same-length-5 c = search needs
@@ -119,23 +105,17 @@ returns-3 : tie.Need-returns-3
 returns-3 c =
     let a = c .before .before .before .before .before .before .before .before .before .before .before .before .before .before .before .before .before .before .args in
     let pre = c .before .before .before .before .before .before .before .before .before .before .before .before .before .before .before .before .before .before .pre in
-    let gone = c .before .before .before .before .before .before .before .before .before .before .before .before .passed in
-    let bell = c .before .before .before .before .before .before .before .before .before .before .before .is-for-bell in
-    let rings = c .before .before .before .before .before .before .before .before .before .before .if1 in
-    let refused = c .before .before .before .before .before .before .before .before .before .is-refused in
-    let may = c .before .before .before .before .before .before .before .before .if2 in
-    let told = c .before .before .before .before .before .store3 in
-    rw (c .device-start .ensures, gone .ensures, told .ensures .0, told .ensures .1, ← begins-device (a .m) (a .common .now) (a .private .now) (a .who) (a .d) (a .operation) (a .a) (pre .1) (pre .6) (sym (bell .ensures (a .m) (told-present (a .m) (a .who) (pre .1))) ∙ rings .left) (sym (refused .ensures) ∙ may .left))
+    rw (c .device-start .ensures, c .before .passed3 .ensures, c .before .before .before .before .before .before .store3 .ensures .0, c .before .before .before .before .before .before .store3 .ensures .1, ← begins-device (a .m) (a .common .now) (a .private .now) (a .who) (a .d) (a .operation) (a .a) (pre .1) (pre .6) (sym (c .before .before .before .before .before .before .before .before .before .before .before .before .is-for-bell .ensures (a .m) (told-present (a .m) (a .who) (pre .1))) ∙ c .before .before .before .before .before .before .before .before .before .before .before .if1 .left) (sym (c .before .before .before .before .before .before .before .before .before .before .is-refused .ensures) ∙ c .before .before .before .before .before .before .before .before .before .if2 .left))
 
 pub begin-spec : {M : Type 1} → statement M
 begin-spec =
     tie.close
     (tie.spec
-    add-passed
-    passed-requires
+    add-s
     is-for-bell-requires
     add-store
     store-requires
+    passed-requires
     bell-wait-requires
     goes-requires
     same-length
@@ -144,16 +124,18 @@ begin-spec =
     is-refused-requires
     add-store-2
     store-requires-2
+    passed-requires-2
     goes-requires-2
     same-length-3
     same-length-4
     returns-2
     add-store-3
     store-requires-3
+    passed-requires-3
     cast-device-start
     cast-device-start-2
     device-start-requires
-    cast-t35
+    cast-t38
     same-length-5
     same-length-6
     returns-3)

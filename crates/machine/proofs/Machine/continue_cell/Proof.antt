@@ -4,7 +4,7 @@ use borrow.Author.Tests.{le-leb, lt-leb}
 use Rattle.machine.specs.State.{noGate}
 use Rattle.machine.specs.declared.Machine.{Machine}
 use Rattle.machine.specs.Gate.{continue, pass, sit}
-use Rattle.machine.proofs.Parts.{empties-first, nowhere-to-sit}
+use Rattle.machine.proofs.Parts.{nowhere-to-sit, seated-first}
 use Rattle.machine.proofs.Laws.{get-past}
 use borrow.Author.Needs.{needs}
 use Rattle.machine.proofs.Machine.continue_cell.Statement.{statement}
@@ -56,7 +56,7 @@ pass-requires-2 c κs = search needs
 returns-3 : tie.Need-returns-3
 unfolding continue sit
 returns-3 c =
-    rw (c .pass2 .ensures, c .before .give-up2 .ensures, c .before .before .seat .ensures, ← c .before .before .before .before .cell .ensures, lt-leb _ _ (c .before .before .before .if2 .left)) (ap (λ (m : Machine). pass m (c .before .before .before .before .before .before .before .args .g) (c .before .before .before .before .cell .result)) (empties-first (c .before .before .before .before .before .before .before .args .t1) _ _ _ _ (simp length-map at (c .before .before .before .before .before .before .before .good .0 .1 .1 .1 .0 .1 .0 .1)) (c .before .before .before .before .before .before .if1 .left)))
+    rw (c .pass2 .ensures, c .before .give-up2 .ensures, c .before .before .seat .ensures, ← c .before .before .before .before .cell .ensures, lt-leb _ _ (c .before .before .before .if2 .left)) (ap (λ (m : Machine). pass m (c .before .before .before .before .before .before .before .args .g) (c .before .before .before .before .cell .result)) (seated-first (c .before .before .before .before .before .before .before .args .t1) _ _ _ _ (simp length-map at (c .before .before .before .before .before .before .before .good .0 .1 .1 .1 .0 .1 .0 .1))))
 
 pub continue-cell-spec : {M : Type 1} → statement M
 continue-cell-spec =

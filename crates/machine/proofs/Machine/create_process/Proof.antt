@@ -1,5 +1,8 @@
+use lib.ListN.{length-map}
 use borrow.Author.Needs.{needs}
+use Rattle.machine.specs.Classes.{push, setRunning, wake}
 use Rattle.machine.specs.Call.{createProcess}
+use Rattle.machine.proofs.Parts.{placed-first}
 use Rattle.machine.proofs.Machine.create_process.Statement.{statement}
 use Rattle.machine.proofs.Machine.create_process.Tie as tie
 
@@ -9,18 +12,19 @@ set-running-requires c κs = search needs
 wake-requires : tie.Need-wake-requires
 wake-requires c κs = search needs
 
-born-requires : tie.Need-born-requires
-born-requires c κs = search needs
-
 place-child-requires : tie.Need-place-child-requires
 place-child-requires c κs = search needs
 
+born-requires : tie.Need-born-requires
+born-requires c κs = search needs
+
 returns : tie.Need-returns
-unfolding createProcess
+unfolding createProcess setRunning wake push
 returns c =
-    rw (c .place-child .ensures, c .before .born .ensures, c .before .before .wake .ensures, c .before .before .before .set-running .ensures)
+    rw (c .born .ensures, c .before .place-child .ensures, c .before .before .wake .ensures, c .before .before .before .set-running .ensures)
+    (placed-first (wake (setRunning (c .before .before .before .before .args .self) 10) (c .before .before .before .before .args .self .running)) _ _ (simp length-map at (c .before .before .before .before .good .0 .1 .1 .0 .1 .0 .1)))
 
 pub create-process-spec : {M : Type 1} → statement M
 create-process-spec =
     tie.close
-    (tie.spec set-running-requires wake-requires born-requires place-child-requires returns)
+    (tie.spec set-running-requires wake-requires place-child-requires born-requires returns)

@@ -42,24 +42,24 @@ mul-w-2 c = search needs
 element-set-from-w : tie.Need-element-set-from-w
 element-set-from-w c = search needs
 
+-- the caller holds one gate fewer
+now : (c : tie.Joined1) → c .if1 .self ≡ withProcess (c .before .args .t1) (c .before .args .t1 .running) (given (proc (c .before .args .t1) (c .before .args .t1 .running)))
+unfolding withProcess
+now c =
+    ⊎-elim (λ w. w .3 ∙ rw (w .2 .ensures))
+    (λ w. w .1 ∙ nobody-becomes (c .before .args .t1) _ _ (simp length-map at (c .before .good .0 .1 .1 .0 .1 .0 .1)) (w .0 .left))
+    (c .if1 .came)
+
 returns : tie.Need-returns
 unfolding giveUp withProcess
 returns c =
-    let e : c .before .before .if1 .self ≡ withProcess (c .before .before .before .args .t1) (c .before .before .before .args .t1 .running) (given (proc (c .before .before .before .args .t1) (c .before .before .before .args .t1 .running))) =
-    ⊎-elim (λ w. w .3 ∙ rw (w .2 .ensures))
-    (λ w. w .1 ∙ nobody-becomes (c .before .before .before .args .t1) _ _ (simp length-map at (c .before .before .before .good .0 .1 .1 .0 .1 .0 .1)) (w .0 .left))
-    (c .before .before .if1 .came)
-    in
+    let e = now (c .before .before) in
     rw e
 
 returns-2 : tie.Need-returns-2
 unfolding giveUp withProcess
 returns-2 c =
-    let e : c .before .if1 .self ≡ withProcess (c .before .before .args .t1) (c .before .before .args .t1 .running) (given (proc (c .before .before .args .t1) (c .before .before .args .t1 .running))) =
-    ⊎-elim (λ w. w .3 ∙ rw (w .2 .ensures))
-    (λ w. w .1 ∙ nobody-becomes (c .before .before .args .t1) _ _ (simp length-map at (c .before .before .good .0 .1 .1 .0 .1 .0 .1)) (w .0 .left))
-    (c .before .if1 .came)
-    in
+    let e = now (c .before) in
     rw (e, set-past (c .before .before .args .t1 .gates) 25 _ (simp length-map at (c .before .before .good .0 .1 .1 .1 .0 .1 .0 .1)) (c .if2 .left) _)
 
 pub give-up-spec : {M : Type 1} → statement M

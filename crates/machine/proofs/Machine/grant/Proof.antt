@@ -36,24 +36,24 @@ mul-w-2 c = search needs
 element-set-from-w : tie.Need-element-set-from-w
 element-set-from-w c = search needs
 
+-- h holds one gate more
+now : (c : tie.Joined1) → c .if1 .self ≡ withProcess (c .before .args .t1) (c .before .args .h) (entered (proc (c .before .args .t1) (c .before .args .h)) (c .before .args .g))
+unfolding withProcess
+now c =
+    ⊎-elim (λ w. w .3 ∙ rw (w .2 .ensures))
+    (λ w. w .1 ∙ nobody-becomes (c .before .args .t1) _ _ (simp length-map at (c .before .good .0 .1 .1 .0 .1 .0 .1)) (w .0 .left))
+    (c .if1 .came)
+
 returns : tie.Need-returns
 unfolding grant withProcess
 returns c =
-    let e : c .before .before .if1 .self ≡ withProcess (c .before .before .before .args .t1) (c .before .before .before .args .h) (entered (proc (c .before .before .before .args .t1) (c .before .before .before .args .h)) (c .before .before .before .args .g)) =
-    ⊎-elim (λ w. w .3 ∙ rw (w .2 .ensures))
-    (λ w. w .1 ∙ nobody-becomes (c .before .before .before .args .t1) _ _ (simp length-map at (c .before .before .before .good .0 .1 .1 .0 .1 .0 .1)) (w .0 .left))
-    (c .before .before .if1 .came)
-    in
+    let e = now (c .before .before) in
     rw e
 
 returns-2 : tie.Need-returns-2
 unfolding grant withProcess
 returns-2 c =
-    let e : c .before .if1 .self ≡ withProcess (c .before .before .args .t1) (c .before .before .args .h) (entered (proc (c .before .before .args .t1) (c .before .before .args .h)) (c .before .before .args .g)) =
-    ⊎-elim (λ w. w .3 ∙ rw (w .2 .ensures))
-    (λ w. w .1 ∙ nobody-becomes (c .before .before .args .t1) _ _ (simp length-map at (c .before .before .good .0 .1 .1 .0 .1 .0 .1)) (w .0 .left))
-    (c .before .if1 .came)
-    in
+    let e = now (c .before) in
     rw (e, set-past (c .before .before .args .t1 .gates) 25 _ (simp length-map at (c .before .before .good .0 .1 .1 .1 .0 .1 .0 .1)) (c .if2 .left) _)
 
 pub grant-spec : {M : Type 1} → statement M
