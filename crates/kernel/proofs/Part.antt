@@ -5,7 +5,7 @@ use mathlib.Core.List.{List, [], _∷_, _++_, append-assoc}
 use Prim.Native.Nat.{ℕ, zero, suc, _+_, _-_, _*_, _≤_, _<_}
 use native.Mathlib.Omega.{arith}
 use lib.Dec.{ltb, leb, eqb}
-use lib.ListN.{length, getD, set, take, drop, replicate, length-append, length-drop, length-replicate, replicate-append-replicate, take-append-drop}
+use lib.ListN.{length, getD, set, take, drop, replicate, length-append, length-replicate, replicate-append-replicate, take-append-drop}
 use lib.Seq.{length-take-le, set-at, take-at, drop-at, drop-drop, drop-cons, drop-append-le, getD-take}
 use borrow.Author.Tests.{lt-leb, ltb-false, leb-false, eqb-true, not-false}
 use Rattle.notation.specs.If.{if}
