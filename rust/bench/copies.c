@@ -1,5 +1,5 @@
-/* Put before the C library, counts the copies of 800 to 960 bytes, a machine, and those of 300 to 799 bytes, a part of one; at
-   the end it writes both numbers. Shorter copies are in the code itself, and longer ones are stores. */
+/* Put before the C library, counts the copies of 800 to 960 bytes, which are of a machine, and those of 300 to 799 bytes, of a
+   part of one; at the end it writes both numbers. Longer copies are the stores' and the state's words. */
 #include <stddef.h>
 #include <stdio.h>
 

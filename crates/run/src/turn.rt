@@ -65,7 +65,7 @@ fn stops(m: Machine, f: u16, count: u32) -> Ran
     }
 }
 
-// No process or no store was fit to go on: from a sound state none is.
+// The process or a store was not fit to go on: from a sound state that does not happen.
 fn unfit(m: Machine, count: u32) -> Ran
     ensures { λ x. ⌜ ((c q : List ℕ) → ran x c q ≡ stepped (world m c q) stopped count) ⌝ }
 {

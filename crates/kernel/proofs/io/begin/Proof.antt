@@ -12,7 +12,8 @@ use Rattle.kernel.proofs.io.begin.Tie as tie
 add-s : tie.Need-add-s
 add-s c =
     let m = c .before .before .before .before .before .args .m in
-    omega (arith, ap (λ (w : Caller). w .process .regs .s) (c .before .before .before .before .before .pre .1), leb-true (regs m .s + 2) (regs m .b) (c .before .before .before .before .before .pre .2), c .before .before .before .before .before .pre .0 .high)
+    let pre = c .before .before .before .before .before .pre in
+    omega (arith, ap (λ (w : Caller). w .process .regs .s) (pre .1), leb-true (regs m .s + 2) (regs m .b) (pre .2), pre .0 .high)
 
 is-for-bell-requires : tie.Need-is-for-bell-requires
 is-for-bell-requires c κs = search needs
@@ -22,7 +23,8 @@ add-store c = search needs
 
 store-requires : tie.Need-store-requires
 store-requires c κs =
-    (rw (c .before .before .before .before .before .before .before .before .before .pre .1) (c .before .before .before .before .before .before .before .before .before .pre .0 .runs), omega (arith, c .before .before .before .before .before .before .before .before .before .pre .5), c .before .before .before .before .before .before .before .before .before .pre .7, c .before .before .before .before .before .before .before .before .before .pre .8)
+    let pre = c .before .before .before .before .before .before .before .before .before .pre in
+    (rw (pre .1) (pre .0 .runs), omega (arith, pre .5), pre .7, pre .8)
 
 passed-requires : tie.Need-passed-requires
 passed-requires c κs = search needs
@@ -46,14 +48,18 @@ returns c =
     rw (c .goes .ensures, c .before .bell-wait .ensures, c .before .before .passed .ensures, c .before .before .before .before .before .before .before .store .ensures .0, c .before .before .before .before .before .before .before .store .ensures .1, ← begins-bell (a .m) (a .common .now) (a .private .now) (a .who) (a .d) (a .operation) (a .a) (pre .1) (pre .6) (sym (c .before .before .before .before .before .before .before .before .before .before .before .is-for-bell .ensures (a .m) (told-present (a .m) (a .who) (pre .1))) ∙ c .before .before .before .before .before .before .before .before .before .before .if1 .taken))
 
 is-refused-requires : tie.Need-is-refused-requires
-is-refused-requires c κs = (c .before .before .before .before .before .before .before .pre .3, told-present (c .before .before .before .before .before .before .before .args .m) (c .before .before .before .before .before .before .before .args .who) (c .before .before .before .before .before .before .before .pre .1))
+is-refused-requires c κs =
+    let a = c .before .before .before .before .before .before .before .args in
+    let pre = c .before .before .before .before .before .before .before .pre in
+    (pre .3, told-present (a .m) (a .who) (pre .1))
 
 add-store-2 : tie.Need-add-store-2
 add-store-2 c = search needs
 
 store-requires-2 : tie.Need-store-requires-2
 store-requires-2 c κs =
-    (rw (c .before .before .before .before .before .before .before .before .before .before .before .pre .1) (c .before .before .before .before .before .before .before .before .before .before .before .pre .0 .runs), omega (arith, c .before .before .before .before .before .before .before .before .before .before .before .pre .5), c .before .before .before .before .before .before .before .before .before .before .before .pre .7, c .before .before .before .before .before .before .before .before .before .before .before .pre .8)
+    let pre = c .before .before .before .before .before .before .before .before .before .before .before .pre in
+    (rw (pre .1) (pre .0 .runs), omega (arith, pre .5), pre .7, pre .8)
 
 passed-requires-2 : tie.Need-passed-requires-2
 passed-requires-2 c κs = search needs
@@ -78,7 +84,8 @@ add-store-3 c = search needs
 
 store-requires-3 : tie.Need-store-requires-3
 store-requires-3 c κs =
-    (rw (c .before .before .before .before .before .before .before .before .before .before .before .pre .1) (c .before .before .before .before .before .before .before .before .before .before .before .pre .0 .runs), omega (arith, c .before .before .before .before .before .before .before .before .before .before .before .pre .5), c .before .before .before .before .before .before .before .before .before .before .before .pre .7, c .before .before .before .before .before .before .before .before .before .before .before .pre .8)
+    let pre = c .before .before .before .before .before .before .before .before .before .before .before .pre in
+    (rw (pre .1) (pre .0 .runs), omega (arith, pre .5), pre .7, pre .8)
 
 passed-requires-3 : tie.Need-passed-requires-3
 passed-requires-3 c κs = search needs
