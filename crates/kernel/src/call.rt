@@ -1,11 +1,14 @@
-// KTRAP k by its number, where the caller and the stores are fit for it.
+// KTRAP k by its number, where the caller and the stores are fit for it: first the decision, then the move of the machine.
 ghost use mathlib.Core.Path.{_≡_};
-ghost use mathlib.Core.Bool.{_&&_};
-ghost use lib.Dec.{leb};
-ghost use lib.ListN.{length};
+ghost use mathlib.Core.Bool.{false};
+ghost use lib.ListN.{length, set};
+ghost use Rattle.machine.specs.declared.Machine.{Machine};
+ghost use Rattle.machine.specs.State.{timed};
 ghost use Rattle.machine.specs.Call.{kernel};
-ghost use Rattle.kernel.specs.Did.{world, done, OnStores, Ready, callerOf, traps};
-use crate::answer::Answer;
+ghost use Rattle.kernel.specs.declared.answer.Act.the-variants.{Unfit};
+ghost use Rattle.kernel.specs.Did.{world, decided, performed, OnStores, Able, able, Told, callerOf, traps};
+use crate::answer::Act;
+use crate::answer::Decision;
 use crate::answer::stops;
 use crate::answer::unfit;
 use crate::caller::Caller;
@@ -13,38 +16,48 @@ use crate::create;
 use crate::io;
 use crate::on_gate;
 use crate::small;
+use machine::Gate;
 use machine::Machine;
+use machine::Process;
 use word::fault;
 
 // The call of a number; any other is 7.
-fn call_of(m: Machine, who: Caller, k: u16, common: &mut [u16], private: &mut [u16]) -> Answer
-    requires { ⌜ Ready m × (who ≡ callerOf m) × (length (now common) ≡ 2048) × (length (now private) ≡ 20480) ⌝ }
-    ensures { λ x. ⌜ OnStores x m (now (common .entry)) (now (common .exit)) (now (private .entry)) (now (private .exit)) (λ w. kernel w k) ⌝ }
+fn call_of(
+    who: Caller,
+    processes: [Process; 10],
+    gates: [Gate; 25],
+    k: u16,
+    common: &mut [u16],
+    private: &mut [u16],
+) -> Decision
+    requires { ⌜ Able who × (length (now common) ≡ 2048) × (length (now private) ≡ 20480) ⌝ }
+    ensures { λ x. ⌜ ((m : Machine) → Told who m → m .processes ≡ set processes (who .number) (who .process) → m .gates ≡ gates → OnStores x m (now (common .entry)) (now (common .exit)) (now (private .entry)) (now (private .exit)) (λ w. kernel w k)) ⌝ }
 {
     match k {
-        0 => small::call0(m, who),
-        1 => small::call1(m, who, private),
-        2 => small::call2(m, who, private),
-        3 => create::call3(m, who, private),
-        4 => small::call4(m, who),
-        5 => small::call5(m, who, private),
-        6 => on_gate::call6(m, who, private),
-        7 => on_gate::call7(m, who, private),
-        8 => on_gate::call8(m, who, private),
-        9 => on_gate::call9(m, who, private),
-        10 => on_gate::call10(m, who, private),
-        11 => io::call11(m, who, common, private),
-        _ => stops(m, fault::CODE),
+        0 => small::call0(who),
+        1 => small::call1(who, private),
+        2 => small::call2(who, private),
+        3 => create::call3(who, private),
+        4 => small::call4(who),
+        5 => small::call5(who, processes, private),
+        6 => on_gate::call6(who, gates, private),
+        7 => on_gate::call7(who, private),
+        8 => on_gate::call8(who, gates, private),
+        9 => on_gate::call9(who, private),
+        10 => on_gate::call10(who, private),
+        11 => io::call11(who, common, private),
+        _ => stops(who, fault::CODE),
     }
 }
 
 // What a sound state gives of a caller that runs.
-fn is_ready(who: Caller) -> bool
-    ensures { λ r. ⌜ r ≡ (leb 1 (who .created) && leb (who .made) 25 && leb 2048 (who .process .regs .s) && leb (who .process .regs .s) (who .process .regs .b) && leb (who .process .regs .b) 4096 && leb (who .process .regs .address) 16256) ⌝ }
+fn is_able(who: Caller) -> bool
+    ensures { λ r. ⌜ r ≡ able who ⌝ }
 {
     let p = who.process;
     let r = p.regs;
-    (1 <= who.created)
+    (who.number < 10)
+        & (1 <= who.created)
         & (who.made <= 25)
         & (2048 <= r.s)
         & (r.s <= r.b)
@@ -52,29 +65,55 @@ fn is_ready(who: Caller) -> bool
         & (r.address <= 16256)
 }
 
-// A kernel call of the running process.
-pub fn trap(m: Machine, k: u16, common: &mut [u16], private: &mut [u16]) -> Answer
-    ensures { λ x. ⌜ done x (now (common .exit)) (now (private .exit)) ≡ traps (world m (now (common .entry)) (now (private .entry))) k ⌝ }
+// What a kernel call of the running process does to its record and to the stores, and the move of the machine that is left to do.
+// The promise is for each machine of which the caller is told; of the processes only the others are looked at. Of a caller that is
+// not able there may be no such machine: it is answered alike.
+pub fn decide(
+    who: Caller,
+    processes: [Process; 10],
+    gates: [Gate; 25],
+    k: u16,
+    common: &mut [u16],
+    private: &mut [u16],
+) -> Decision
+    ensures { λ x. ⌜ ((m : Machine) → who ≡ callerOf m → m .processes ≡ set processes (who .number) (who .process) → m .gates ≡ gates → decided m x (now (common .exit)) (now (private .exit)) ≡ traps (world m (now (common .entry)) (now (private .entry))) k) × (able who ≡ false → (x ≡ record { process = who .process; act = Unfit }) × (now (common .exit) ≡ now (common .entry)) × (now (private .exit) ≡ now (private .entry))) ⌝ }
 {
-    let i = m.running;
-    if 10 <= i {
-        return unfit(m);
-    }
-    let process = m.processes[i as usize];
-    let who = Caller {
-        number: i,
-        process,
-        seconds: m.seconds,
-        created: m.created,
-        made: m.made,
-        length: m.length,
-        present: m.present,
-    };
-    let able = is_ready(who);
+    let able = is_able(who);
     let fit = (common.len() == 2048) & (private.len() == 20480) & able;
     if fit {
-        call_of(m, who, k, common, private)
+        call_of(who, processes, gates, k, common, private)
     } else {
-        unfit(m)
+        unfit(who)
+    }
+}
+
+// The machine stops with a number, at a line.
+fn halt(mut m: Machine, f: u8, line: u16) -> Machine
+    ensures { λ r. ⌜ r ≡ timed m f line (m .seconds) (m .fraction) ⌝ }
+{
+    m.stop = f;
+    m.line = line;
+    m
+}
+
+// The move that was decided; the caller's record has been put in its place.
+pub fn perform(m: Machine, act: Act) -> Machine
+    ensures { λ r. ⌜ r ≡ performed m act ⌝ }
+{
+    match act {
+        Act::Unfit => m,
+        Act::Stop(f, line) => halt(m, f, line),
+        Act::Go => m,
+        Act::WaitClock => m.clock_wait(),
+        Act::WaitBell => m.bell_wait(),
+        Act::Create(t, v) => m.create_process(t, v),
+        Act::Finish => m.finish(),
+        Act::StopJob(q, reason) => m.stop_job(q, reason),
+        Act::Enter(g) => m.enter(g),
+        Act::Leave(g) => m.leave(g),
+        Act::Delay(g, c) => m.delay(g, c),
+        Act::Continue(g, c) => m.continue_cell(g, c),
+        Act::MakeGate => m.make_gate(),
+        Act::Start(d, operation, a) => m.device_start(d, operation, a),
     }
 }

@@ -1,17 +1,15 @@
-// The caller: what a call is told of it, its stack's words, and how it goes on past KTRAP.
+// The caller: what a call is told of it, and its stack's words.
 ghost use mathlib.Core.Path.{_≡_};
 ghost use Prim.Native.Nat.{_+_, _*_, _-_, _<_, _≤_};
 ghost use lib.Dec.{leb};
 ghost use lib.ListN.{length, getD, set};
 ghost use Rattle.machine.specs.Store.{own};
-ghost use Rattle.machine.specs.Call.{passed};
-ghost use Rattle.kernel.specs.Did.{Ready, callerOf};
-use machine::Machine;
+use machine::Device;
 use machine::Process;
 use machine::Regs;
 
-// What a call is told of the machine, read once, at the door: the caller's number and record, and the plain fields that calls
-// read. Each function that indexes the machine keeps a copy of it.
+// What a call is told of the machine by who has it in hand: the caller's number and record, and the fields that calls read. A
+// call is given no machine, since each function that is given one and indexes it keeps a copy of it.
 pub struct Caller {
     pub number: u8,
     pub process: Process,
@@ -20,6 +18,7 @@ pub struct Caller {
     pub made: u8,
     pub length: u16,
     pub present: u16,
+    pub devices: [Device; 5],
 }
 
 pub(crate) fn wide(x: u16) -> usize
@@ -67,20 +66,6 @@ pub(crate) fn put(i: u8, a: u16, x: u16, private: &mut [u16])
 {
     let at = own(i, a);
     private[at] = x;
-}
-
-// The caller has gone past KTRAP, with S at s.
-pub(crate) fn passed(mut m: Machine, who: Caller, s: u16) -> Machine
-    requires { ⌜ Ready m × (who ≡ callerOf m) ⌝ }
-    ensures { λ r. ⌜ r ≡ passed m s ⌝ }
-{
-    let mut p = who.process;
-    let mut r = p.regs;
-    r.address = r.address + 2;
-    r.s = s;
-    p.regs = r;
-    m.processes[who.number as usize] = p;
-    m
 }
 
 // Whether one more word has room above the floor L.

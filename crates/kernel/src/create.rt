@@ -4,21 +4,21 @@ ghost use mathlib.Core.List.{_++_};
 ghost use Prim.Native.Nat.{_+_, _*_, _-_, _≤_, _<_};
 ghost use lib.ListN.{length, getD, take, drop, replicate};
 ghost use Rattle.notation.specs.Upto.{listTo};
+ghost use Rattle.machine.specs.declared.Machine.{Machine};
 ghost use Rattle.machine.specs.Store.{own};
 ghost use Rattle.machine.specs.View.{cleared};
 ghost use Rattle.machine.specs.Call.{call3};
-ghost use Rattle.kernel.specs.Did.{OnPrivate, Ready, callerOf};
+ghost use Rattle.kernel.specs.Did.{OnPrivate, Able, Told};
 ghost use Rattle.kernel.specs.Part.{partWith};
-use crate::answer::Answer;
+use crate::answer::Act;
+use crate::answer::Decision;
 use crate::answer::goes;
 use crate::answer::stops;
 use crate::caller::Caller;
 use crate::caller::has_words;
-use crate::caller::passed;
 use crate::caller::stack_word;
 use crate::caller::wide;
 use crate::caller::wide_byte;
-use machine::Machine;
 use word::fault;
 
 // 2,048 words from a place on become zero.
@@ -53,35 +53,35 @@ fn new_part(child: u8, s: u16, p: u16, private: &mut [u16])
 }
 
 // 3 new process: pop t, v, p, then p words.
-pub(crate) fn call3(m: Machine, who: Caller, private: &mut [u16]) -> Answer
-    requires { ⌜ Ready m × (who ≡ callerOf m) × (length (now private) ≡ 20480) ⌝ }
-    ensures { λ x. ⌜ OnPrivate x m (now (private .entry)) (now (private .exit)) call3 ⌝ }
+pub(crate) fn call3(who: Caller, private: &mut [u16]) -> Decision
+    requires { ⌜ Able who × (length (now private) ≡ 20480) ⌝ }
+    ensures { λ x. ⌜ ((m : Machine) → Told who m → OnPrivate x m (now (private .entry)) (now (private .exit)) call3) ⌝ }
 {
     let i = who.number;
     let process = who.process;
     let r = process.regs;
     let words = has_words(r, 3);
     if !words {
-        return stops(m, fault::CODE);
+        return stops(who, fault::CODE);
     }
     let t = stack_word(i, r, 0, private);
     let v = stack_word(i, r, 1, private);
     let p = stack_word(i, r, 2, private);
     let limit = !(who.number == 0) | (10 <= who.created);
     if limit {
-        return stops(m, fault::LIMIT);
+        return stops(who, fault::LIMIT);
     }
     let range = (1024 < v) | (v < p);
     if range {
-        return stops(m, fault::RANGE);
+        return stops(who, fault::RANGE);
     }
     let all = has_words(r, 3 + p);
     if !all {
-        return stops(m, fault::CODE);
+        return stops(who, fault::CODE);
     }
     if who.length <= t {
-        return stops(m, fault::CODE);
+        return stops(who, fault::CODE);
     }
     new_part(who.created, r.s, p, private);
-    goes(passed(m, who, r.s + (3 + p)).create_process(t, v))
+    goes(who, r.s + (3 + p), Act::Create(t, v))
 }

@@ -1,26 +1,24 @@
 // Call 11: I/O, and the record of a busy device.
 ghost use mathlib.Core.Path.{_≡_};
-ghost use mathlib.Core.Bool.{true, _&&_, _||_, not};
-ghost use mathlib.Core.List.{[]};
+ghost use mathlib.Core.Bool.{_&&_, _||_, not};
 ghost use Prim.Native.Nat.{_+_, _≤_, _<_};
-ghost use lib.Dec.{eqb, leb};
-ghost use lib.ListN.{length};
+ghost use lib.Dec.{eqb};
+ghost use lib.ListN.{length, getD};
 ghost use Rattle.machine.specs.declared.Machine.{Machine};
-ghost use Rattle.machine.specs.State.{proc};
-ghost use Rattle.machine.specs.Store.{whole, placeOf, wordIn, commonWith, privateWith};
+ghost use Rattle.machine.specs.Store.{own, whole, placeOf, wordIn, commonWith, privateWith};
 ghost use Rattle.machine.specs.Device.{isPresent, isBusy};
-ghost use Rattle.machine.specs.Call.{stackWord, ioBegins, call11};
-ghost use Rattle.kernel.specs.Did.{world, OnStores, Ready, callerOf, handedBack};
-use crate::answer::Answer;
-use crate::answer::End;
+ghost use Rattle.machine.specs.Call.{ioBegins, call11};
+ghost use Rattle.kernel.specs.Did.{world, OnStores, Able, Told, handedBack};
+use crate::answer::Act;
+use crate::answer::Decision;
 use crate::answer::goes;
 use crate::answer::stops;
 use crate::caller::Caller;
 use crate::caller::has_words;
 use crate::caller::own;
-use crate::caller::passed;
 use crate::caller::stack_word;
 use crate::caller::wide;
+use machine::Device;
 use machine::Machine;
 use word::fault;
 
@@ -82,35 +80,26 @@ fn is_for_bell(present: u16, d: u16, operation: u16) -> bool
 }
 
 // Absent or busy.
-fn is_refused(m: Machine, present: u16, d: u16) -> bool
-    requires { ⌜ (d ≤ 4) × (m .present ≡ present) ⌝ }
-    ensures { λ r. ⌜ r ≡ (not (isPresent m d) || isBusy m d) ⌝ }
+fn is_refused(present: u16, devices: [Device; 5], d: u16) -> bool
+    requires { ⌜ d ≤ 4 ⌝ }
+    ensures { λ r. ⌜ ((m : Machine) → m .present ≡ present → m .devices ≡ devices → r ≡ (not (isPresent m d) || isBusy m d)) ⌝ }
 {
     let there = is_present(present, d);
-    let busy = is_busy(m, d);
-    !there | busy
-}
-
-fn is_busy(m: Machine, d: u16) -> bool
-    requires { ⌜ d ≤ 4 ⌝ }
-    ensures { λ r. ⌜ r ≡ isBusy m d ⌝ }
-{
-    let x = m.devices[d as usize];
-    x.process < 10
+    let x = devices[d as usize];
+    !there | (x.process < 10)
 }
 
 // The caller waits for the bell, goes on, or waits for the device; the status stands in its record.
 fn begin(
-    m: Machine,
     who: Caller,
     d: u16,
     operation: u16,
     a: u16,
     common: &mut [u16],
     private: &mut [u16],
-) -> Answer
-    requires { ⌜ Ready m × (who ≡ callerOf m) × (leb ((proc m (m .running)) .regs .s + 2) ((proc m (m .running)) .regs .b) ≡ true) × (d ≤ 4) × (operation ≤ 3) × (a ≤ 4092) × (a ≡ stackWord (world m [] (now private)) 0) × (length (now common) ≡ 2048) × (length (now private) ≡ 20480) ⌝ }
-    ensures { λ x. ⌜ OnStores x m (now (common .entry)) (now (common .exit)) (now (private .entry)) (now (private .exit)) (λ w. ioBegins w d operation) ⌝ }
+) -> Decision
+    requires { ⌜ Able who × (who .process .regs .s + 2 ≤ who .process .regs .b) × (d ≤ 4) × (operation ≤ 3) × (a ≤ 4092) × (a ≡ getD (now private) (own (who .number) (who .process .regs .s + 0)) 0) × (length (now common) ≡ 2048) × (length (now private) ≡ 20480) ⌝ }
+    ensures { λ x. ⌜ ((m : Machine) → Told who m → OnStores x m (now (common .entry)) (now (common .exit)) (now (private .entry)) (now (private .exit)) (λ w. ioBegins w d operation)) ⌝ }
 {
     let i = who.number;
     let process = who.process;
@@ -119,45 +108,42 @@ fn begin(
     let bell = is_for_bell(who.present, d, operation);
     if bell {
         store(i, a + 1, 0, common, private);
-        return goes(passed(m, who, s).bell_wait());
+        return goes(who, s, Act::WaitBell);
     }
-    let refused = is_refused(m, who.present, d);
+    let devices = who.devices;
+    let refused = is_refused(who.present, devices, d);
     if refused {
         store(i, a + 1, 3, common, private);
-        return goes(passed(m, who, s));
+        return goes(who, s, Act::Go);
     }
     store(i, a + 1, 0, common, private);
-    let machine = passed(m, who, s).device_start(d as u8, operation as u8, a);
-    Answer {
-        machine,
-        end: End::Starts(d as u8),
-    }
+    goes(who, s, Act::Start(d as u8, operation as u8, a))
 }
 
 // 11 I/O: pop record address, device.
-pub(crate) fn call11(m: Machine, who: Caller, common: &mut [u16], private: &mut [u16]) -> Answer
-    requires { ⌜ Ready m × (who ≡ callerOf m) × (length (now common) ≡ 2048) × (length (now private) ≡ 20480) ⌝ }
-    ensures { λ x. ⌜ OnStores x m (now (common .entry)) (now (common .exit)) (now (private .entry)) (now (private .exit)) call11 ⌝ }
+pub(crate) fn call11(who: Caller, common: &mut [u16], private: &mut [u16]) -> Decision
+    requires { ⌜ Able who × (length (now common) ≡ 2048) × (length (now private) ≡ 20480) ⌝ }
+    ensures { λ x. ⌜ ((m : Machine) → Told who m → OnStores x m (now (common .entry)) (now (common .exit)) (now (private .entry)) (now (private .exit)) call11) ⌝ }
 {
     let i = who.number;
     let process = who.process;
     let r = process.regs;
     let words = has_words(r, 2);
     if !words {
-        return stops(m, fault::CODE);
+        return stops(who, fault::CODE);
     }
     let a = stack_word(i, r, 0, private);
     let d = stack_word(i, r, 1, private);
     let one = is_whole(a);
     if !one {
-        return stops(m, fault::POINTER);
+        return stops(who, fault::POINTER);
     }
     let operation = fetch(i, a, common, private);
     let known = (d <= 4) & (operation <= 3);
     if known {
-        begin(m, who, d, operation, a, common, private)
+        begin(who, d, operation, a, common, private)
     } else {
-        stops(m, fault::RANGE)
+        stops(who, fault::RANGE)
     }
 }
 

@@ -8,8 +8,10 @@ mod io;
 mod on_gate;
 mod small;
 
-pub use answer::Answer;
-pub use answer::End;
-pub use call::trap;
+pub use answer::Act;
+pub use answer::Decision;
+pub use call::decide;
+pub use call::perform;
+pub use caller::Caller;
 pub use done::device_done;
 pub use io::record;

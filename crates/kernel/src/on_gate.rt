@@ -3,18 +3,19 @@ ghost use mathlib.Core.Path.{_≡_};
 ghost use lib.Dec.{ltb};
 ghost use lib.ListN.{length};
 ghost use Rattle.notation.specs.If.{if};
+ghost use Rattle.machine.specs.declared.Machine.{Machine};
 ghost use Rattle.machine.specs.Call.{call6, call7, call8, call9, call10};
-ghost use Rattle.kernel.specs.Did.{OnPrivate, Ready, callerOf};
-use crate::answer::Answer;
+ghost use Rattle.kernel.specs.Did.{OnPrivate, Able, Told};
+use crate::answer::Act;
+use crate::answer::Decision;
 use crate::answer::goes;
 use crate::answer::stops;
 use crate::caller::Caller;
 use crate::caller::has_room;
 use crate::caller::has_words;
-use crate::caller::passed;
 use crate::caller::put;
 use crate::caller::stack_word;
-use machine::Machine;
+use machine::Gate;
 use word::fault;
 
 // A word as a number of a gate or a cell: there is none of 255, nor of more.
@@ -25,51 +26,51 @@ pub(crate) fn byte(x: u16) -> u8
 }
 
 // 6 enter: pop gate.
-pub(crate) fn call6(m: Machine, who: Caller, private: &[u16]) -> Answer
-    requires { ⌜ Ready m × (who ≡ callerOf m) × (length (now private) ≡ 20480) ⌝ }
-    ensures { λ x. ⌜ OnPrivate x m (now (private .entry)) (now (private .entry)) call6 ⌝ }
+pub(crate) fn call6(who: Caller, gates: [Gate; 25], private: &[u16]) -> Decision
+    requires { ⌜ Able who × (length (now private) ≡ 20480) ⌝ }
+    ensures { λ x. ⌜ ((m : Machine) → Told who m → m .gates ≡ gates → OnPrivate x m (now (private .entry)) (now (private .entry)) call6) ⌝ }
 {
     let process = who.process;
     let r = process.regs;
     let words = has_words(r, 1);
     if words {
         let g = byte(stack_word(who.number, r, 0, private));
-        let may = m.may_enter(g);
+        let may = process.may_enter(who.number, gates, who.made, g);
         if may {
-            goes(passed(m, who, r.s + 1).enter(g))
+            goes(who, r.s + 1, Act::Enter(g))
         } else {
-            stops(m, fault::GATE)
+            stops(who, fault::GATE)
         }
     } else {
-        stops(m, fault::CODE)
+        stops(who, fault::CODE)
     }
 }
 
 // 7 leave: pop gate.
-pub(crate) fn call7(m: Machine, who: Caller, private: &[u16]) -> Answer
-    requires { ⌜ Ready m × (who ≡ callerOf m) × (length (now private) ≡ 20480) ⌝ }
-    ensures { λ x. ⌜ OnPrivate x m (now (private .entry)) (now (private .entry)) call7 ⌝ }
+pub(crate) fn call7(who: Caller, private: &[u16]) -> Decision
+    requires { ⌜ Able who × (length (now private) ≡ 20480) ⌝ }
+    ensures { λ x. ⌜ ((m : Machine) → Told who m → OnPrivate x m (now (private .entry)) (now (private .entry)) call7) ⌝ }
 {
     let process = who.process;
     let r = process.regs;
     let words = has_words(r, 1);
     if words {
         let g = byte(stack_word(who.number, r, 0, private));
-        let may = m.may_leave(g);
+        let may = process.may_leave(who.made, g);
         if may {
-            goes(passed(m, who, r.s + 1).leave(g))
+            goes(who, r.s + 1, Act::Leave(g))
         } else {
-            stops(m, fault::GATE)
+            stops(who, fault::GATE)
         }
     } else {
-        stops(m, fault::CODE)
+        stops(who, fault::CODE)
     }
 }
 
 // 8 delay: pop cell, gate.
-pub(crate) fn call8(m: Machine, who: Caller, private: &[u16]) -> Answer
-    requires { ⌜ Ready m × (who ≡ callerOf m) × (length (now private) ≡ 20480) ⌝ }
-    ensures { λ x. ⌜ OnPrivate x m (now (private .entry)) (now (private .entry)) call8 ⌝ }
+pub(crate) fn call8(who: Caller, gates: [Gate; 25], private: &[u16]) -> Decision
+    requires { ⌜ Able who × (length (now private) ≡ 20480) ⌝ }
+    ensures { λ x. ⌜ ((m : Machine) → Told who m → m .gates ≡ gates → OnPrivate x m (now (private .entry)) (now (private .entry)) call8) ⌝ }
 {
     let process = who.process;
     let r = process.regs;
@@ -77,21 +78,21 @@ pub(crate) fn call8(m: Machine, who: Caller, private: &[u16]) -> Answer
     if words {
         let c = byte(stack_word(who.number, r, 0, private));
         let g = byte(stack_word(who.number, r, 1, private));
-        let may = m.may_delay(g, c);
+        let may = process.may_delay(gates, who.made, g, c);
         if may {
-            goes(passed(m, who, r.s + 2).delay(g, c))
+            goes(who, r.s + 2, Act::Delay(g, c))
         } else {
-            stops(m, fault::GATE)
+            stops(who, fault::GATE)
         }
     } else {
-        stops(m, fault::CODE)
+        stops(who, fault::CODE)
     }
 }
 
 // 9 continue: pop cell, gate.
-pub(crate) fn call9(m: Machine, who: Caller, private: &[u16]) -> Answer
-    requires { ⌜ Ready m × (who ≡ callerOf m) × (length (now private) ≡ 20480) ⌝ }
-    ensures { λ x. ⌜ OnPrivate x m (now (private .entry)) (now (private .entry)) call9 ⌝ }
+pub(crate) fn call9(who: Caller, private: &[u16]) -> Decision
+    requires { ⌜ Able who × (length (now private) ≡ 20480) ⌝ }
+    ensures { λ x. ⌜ ((m : Machine) → Told who m → OnPrivate x m (now (private .entry)) (now (private .entry)) call9) ⌝ }
 {
     let process = who.process;
     let r = process.regs;
@@ -99,36 +100,36 @@ pub(crate) fn call9(m: Machine, who: Caller, private: &[u16]) -> Answer
     if words {
         let c = byte(stack_word(who.number, r, 0, private));
         let g = byte(stack_word(who.number, r, 1, private));
-        let may = m.may_continue(g, c);
+        let may = process.may_continue(who.made, g, c);
         if may {
-            goes(passed(m, who, r.s + 2).continue_cell(g, c))
+            goes(who, r.s + 2, Act::Continue(g, c))
         } else {
-            stops(m, fault::GATE)
+            stops(who, fault::GATE)
         }
     } else {
-        stops(m, fault::CODE)
+        stops(who, fault::CODE)
     }
 }
 
 // 10 new gate: push its number.
-pub(crate) fn call10(m: Machine, who: Caller, private: &mut [u16]) -> Answer
-    requires { ⌜ Ready m × (who ≡ callerOf m) × (length (now private) ≡ 20480) ⌝ }
-    ensures { λ x. ⌜ OnPrivate x m (now (private .entry)) (now (private .exit)) call10 ⌝ }
+pub(crate) fn call10(who: Caller, private: &mut [u16]) -> Decision
+    requires { ⌜ Able who × (length (now private) ≡ 20480) ⌝ }
+    ensures { λ x. ⌜ ((m : Machine) → Told who m → OnPrivate x m (now (private .entry)) (now (private .exit)) call10) ⌝ }
 {
     if 25 <= who.made {
-        return stops(m, fault::LIMIT);
+        return stops(who, fault::LIMIT);
     }
     let process = who.process;
     if 8 <= process.holds {
-        return stops(m, fault::GATE);
+        return stops(who, fault::GATE);
     }
     let room = has_room(process);
     if room {
         let r = process.regs;
         let s = r.s - 1;
         put(who.number, s, who.made as u16, private);
-        goes(passed(m, who, s).make_gate())
+        goes(who, s, Act::MakeGate)
     } else {
-        stops(m, fault::STACK_LIMIT)
+        stops(who, fault::STACK_LIMIT)
     }
 }

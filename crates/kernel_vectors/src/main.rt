@@ -1,8 +1,9 @@
 // Runs each kernel call with each of its faults, each event, the selection and the limits, and says the state after each.
 ghost use Prim.Native.Nat.{_<_};
 use image::Header;
-use kernel::Answer;
-use kernel::End;
+use kernel::Act;
+use kernel::Caller;
+use kernel::Decision;
 use libc::STDOUT_FILENO;
 use machine::Machine;
 use machine::Process;
@@ -864,26 +865,48 @@ fn say_start<'a>(m: Machine, d: u8, common: &'a [u16; 2048], private: &'a [u16; 
     say_record(kernel::record(m, d, common, private));
 }
 
+// A kernel call of the running process: what is decided, and the machine after the move.
+fn decided(m: Machine, k: u16, common: &mut [u16; 2048], private: &mut [u16; 20480]) -> Decision {
+    let devices = m.devices;
+    let who = Caller {
+        number: m.running,
+        process: process_of(m, m.running),
+        seconds: m.seconds,
+        created: m.created,
+        made: m.made,
+        length: m.length,
+        present: m.present,
+        devices,
+    };
+    let processes = m.processes;
+    let gates = m.gates;
+    kernel::decide(who, processes, gates, k, common, private)
+}
+
+fn moved(m: Machine, d: Decision) -> Machine {
+    let process = d.process;
+    let act = d.act;
+    kernel::perform(with_process(m, m.running, process), act)
+}
+
 // How a call has ended, and the machine after the selection, where it goes on.
-fn ended<'a>(x: Answer, common: &'a [u16; 2048], private: &'a [u16; 20480]) -> Machine {
-    let m = x.machine;
-    let end = x.end;
-    match end {
-        End::On => {
-            say(b"on");
-            m.select()
+fn ended<'a>(m: Machine, act: Act, common: &'a [u16; 2048], private: &'a [u16; 20480]) -> Machine {
+    match act {
+        Act::Unfit => {
+            say(b"unfit");
+            m
         }
-        End::Starts(d) => {
+        Act::Stop(f, _) => {
+            say_small(b"stops ", f);
+            m
+        }
+        Act::Start(d, _, _) => {
             say_start(m, d, common, private);
             m.select()
         }
-        End::Stops(f) => {
-            say_marked(b"stops ", f);
-            m
-        }
-        End::Unfit => {
-            say(b"unfit");
-            m
+        _ => {
+            say(b"on");
+            m.select()
         }
     }
 }
@@ -893,8 +916,9 @@ fn call(m: Machine, row: u16, common: &mut [u16; 2048], private: &mut [u16; 2048
     let q = ready.running;
     let p = process_of(ready, q);
     push_words(row, q, p.regs.s, common, private);
-    let x = kernel::trap(ready, field(row, 1), common, private);
-    ended(x, common, private)
+    let d = decided(ready, field(row, 1), common, private);
+    let act = d.act;
+    ended(moved(ready, d), act, common, private)
 }
 
 fn based(m: Machine, b: u16) -> Machine {
@@ -951,11 +975,11 @@ fn see(q: u8, a: u16, n: u16, common: &[u16; 2048], private: &[u16; 20480]) {
 // A gate is made and left.
 fn one_made(m: Machine, common: &mut [u16; 2048], private: &mut [u16; 20480]) -> Machine {
     let ready = about_to_call(m, 0);
-    let x = kernel::trap(ready, 10, common, private);
-    let holding = x.machine.select();
+    let make = decided(ready, 10, common, private);
+    let holding = moved(ready, make).select();
     let able = about_to_call(holding, 1);
-    let y = kernel::trap(able, 7, common, private);
-    y.machine.select()
+    let leave = decided(able, 7, common, private);
+    moved(able, leave).select()
 }
 
 fn made(m: Machine, n: u16, common: &mut [u16; 2048], private: &mut [u16; 20480]) -> Machine {

@@ -1,23 +1,23 @@
--- A gate given up and a cell of it changed, a child made and placed, in either order; and what is asked and changed where there is
--- no such process or gate
-use mathlib.Core.Path.{_≡_, refl}
-use mathlib.Core.Bool.{Bool, true, false, _&&_, _||_}
+-- A gate given up and a cell of it changed, a child made and placed, in either order; the stop of a job; and what changes where
+-- there is no such process or gate
+use mathlib.Core.Path.{_≡_}
+use mathlib.Core.Bool.{true, false, _&&_, _||_, not}
 use Prim.Native.Nat.{ℕ, _≤_, _<_}
 use native.Mathlib.Omega.{arith}
 use lib.Dec.{eqb, ltb}
 use lib.ListN.{length, set}
 use lib.Seq.{getD-set-same, set-set}
-use borrow.Author.Tests.{lt-ltb, le-ltb}
+use borrow.Author.Tests.{ltb-true, ltb-false, lt-ltb, le-ltb, lt-leb, le-leb}
 use Rattle.notation.specs.If.{if}
-use Rattle.notation.proofs.Upto.{split, below?}
+use Rattle.notation.proofs.Upto.{split, both, below?}
 use Rattle.machine.specs.declared.Gate.{Gate}
 use Rattle.machine.specs.declared.Process.{Process}
 use Rattle.machine.specs.declared.Machine.{Machine}
 use Rattle.machine.specs.State.{nobody, noGate, noProcess, gate, proc, started, withProcess}
 use Rattle.machine.specs.Classes.{push, setRunning, someReady, wake}
 use Rattle.machine.specs.Queue.{first, rest}
-use Rattle.machine.specs.Gate.{advance, given, giveUp, handOn, latest, mayLeave, pass, sit, withGate}
-use Rattle.machine.specs.Call.{born, placeChild}
+use Rattle.machine.specs.Gate.{advance, given, giveUp, handOn, pass, sit, withGate}
+use Rattle.machine.specs.Call.{born, placeChild, stopAnswer, stopJob}
 use Rattle.machine.proofs.Laws.{get-past, set-past}
 
 -- the gate with x in its cell, and the gate given up
@@ -81,16 +81,28 @@ module _ (m : Machine) (t v : ℕ) (long : length (m .processes) ≡ 10) where
       (λ w. rw (w, ← child-class))
       (λ w. rw w)
 
--- who holds nothing leaves nothing
-and-not : (a b : Bool) → false ≡ (a && false && b)
-and-not true b = refl
-and-not false b = refl
-
-pub nobody-leaves : (m : Machine) (g : ℕ) → length (m .processes) ≡ 10 → nobody ≤ m .running → false ≡ mayLeave m g
-unfolding mayLeave
-nobody-leaves m g long l = rw (get-past (m .processes) 10 (m .running) long l noProcess) (and-not (ltb g (m .made)) (eqb (latest noProcess) g))
-
 -- a process that is not there becomes nothing
 pub nobody-becomes : (m : Machine) (h : ℕ) (p : Process) → length (m .processes) ≡ 10 → nobody ≤ h → m ≡ withProcess m h p
 unfolding withProcess
 nobody-becomes m h p long l = rw (set-past (m .processes) 10 h long l p)
+
+-- ---- the stop of a job
+module _ (m : Machine) (q reason : ℕ) where
+  pub asked : (a : ℕ) → q < m .created
+      → a ≡ if (not ((proc m q) .regs .«in_job»)) 2 (if (ltb reason 16 || ltb 255 reason) 3 (if (not (eqb ((proc m q) .regs .reason) 0)) 4 0))
+      → stopAnswer m q reason ≡ a
+  unfolding stopAnswer
+  asked a l f = rw (lt-leb (m .created) q l, f)
+
+  pub there : ltb q (m .created) && ltb q 10 ≡ true → (q < m .created) × (q < 10)
+  there e = let f = both (ltb q (m .created)) (ltb q 10) e in (ltb-true q (m .created) (f .0), ltb-true q 10 (f .1))
+
+  -- of a process that is not there
+  pub not-stopped : length (m .processes) ≡ 10 → ltb q (m .created) && ltb q 10 ≡ false → m ≡ stopJob m q reason
+  unfolding stopJob stopAnswer
+  not-stopped long e =
+      below? q (m .created)
+      (λ l.
+      let f : ltb q 10 ≡ false = rw (lt-ltb q (m .created) l) at e in
+      rw (lt-leb (m .created) q l, get-past (m .processes) 10 q long (ltb-false q 10 f) noProcess))
+      (λ l. rw (le-leb (m .created) q l))

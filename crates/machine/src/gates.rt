@@ -4,7 +4,8 @@ ghost use Prim.Native.Nat.{_-_};
 ghost use lib.Dec.{leb};
 ghost use lib.ListN.{getD, set};
 ghost use Rattle.notation.specs.If.{if};
-ghost use Rattle.machine.specs.State.{more, noProcess, noGate};
+ghost use Rattle.machine.specs.declared.Machine.{Machine};
+ghost use Rattle.machine.specs.State.{more, proc, noProcess, noGate};
 ghost use Rattle.machine.specs.Classes.{setRunning};
 ghost use Rattle.machine.specs.Gate.{latest, entered, given, sit, grant, giveUp, pass, handOn, enter, leave, delay, continue, makeGate, mayEnter, mayLeave, mayContinue, mayDelay};
 use crate::Gate;
@@ -251,7 +252,7 @@ pub(crate) fn one_more(x: u8, k: u8) -> u8
 }
 
 // ---- fault 8
-// The parts that it asks for, of the processes or the gates alone; one that is not there has none.
+// What it asks of the processes or the gates alone; one that is not there has none.
 pub(crate) fn holds_of(processes: [Process; 10], h: u8) -> u8
     ensures { λ r. ⌜ r ≡ (getD processes h noProcess) .holds ⌝ }
 {
@@ -285,45 +286,36 @@ fn cell_of(gates: [Gate; 25], g: u8, c: u8) -> u8
     }
 }
 
-impl Machine {
-    // A gate there is, not held by the caller, and the caller has room for one more.
-    pub fn may_enter(self, g: u8) -> bool
-        ensures { λ r. ⌜ r ≡ mayEnter self g ⌝ }
+// The caller's record is asked, with the parts of the machine that it needs: who asks keeps no copy of the machine.
+impl Process {
+    // A gate there is, not held by the caller, which is process i and has room for one more.
+    pub fn may_enter(self, i: u8, gates: [Gate; 25], made: u8, g: u8) -> bool
+        ensures { λ r. ⌜ ((m : Machine) → m .running ≡ i → proc m (m .running) ≡ self → m .gates ≡ gates → m .made ≡ made → r ≡ mayEnter m g) ⌝ }
     {
-        let i = self.running;
-        let gates = self.gates;
         let holder = holder_of(gates, g);
-        let processes = self.processes;
-        let holds = holds_of(processes, i);
-        (g < self.made) & !(holder == i) & (holds < 8)
+        (g < made) & !(holder == i) & (self.holds < 8)
     }
 
     // A gate there is, and the latest that the caller entered.
-    pub fn may_leave(self, g: u8) -> bool
-        ensures { λ r. ⌜ r ≡ mayLeave self g ⌝ }
+    pub fn may_leave(self, made: u8, g: u8) -> bool
+        ensures { λ r. ⌜ ((m : Machine) → proc m (m .running) ≡ self → m .made ≡ made → r ≡ mayLeave m g) ⌝ }
     {
-        let i = self.running;
-        if 10 <= i {
-            return false;
-        }
-        let p = self.processes[i as usize];
-        let latest = p.latest();
-        (g < self.made) & (0 < p.holds) & (latest == g)
+        let latest = self.latest();
+        (g < made) & (0 < self.holds) & (latest == g)
     }
 
-    pub fn may_continue(self, g: u8, c: u8) -> bool
-        ensures { λ r. ⌜ r ≡ mayContinue self g c ⌝ }
+    pub fn may_continue(self, made: u8, g: u8, c: u8) -> bool
+        ensures { λ r. ⌜ ((m : Machine) → proc m (m .running) ≡ self → m .made ≡ made → r ≡ mayContinue m g c) ⌝ }
     {
-        let may = self.may_leave(g);
+        let may = self.may_leave(made, g);
         may & (c <= 7)
     }
 
-    pub fn may_delay(self, g: u8, c: u8) -> bool
-        ensures { λ r. ⌜ r ≡ mayDelay self g c ⌝ }
+    pub fn may_delay(self, gates: [Gate; 25], made: u8, g: u8, c: u8) -> bool
+        ensures { λ r. ⌜ ((m : Machine) → proc m (m .running) ≡ self → m .gates ≡ gates → m .made ≡ made → r ≡ mayDelay m g c) ⌝ }
     {
-        let may = self.may_continue(g, c);
-        let gates = self.gates;
         let x = cell_of(gates, g, c);
+        let may = self.may_continue(made, g, c);
         may & (10 <= x)
     }
 }

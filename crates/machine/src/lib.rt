@@ -8,6 +8,7 @@ mod queues;
 
 pub use classes::is_better_ready;
 use image::Header;
+pub use processes::stop_answer;
 ghost use mathlib.Core.Path.{_≡_};
 ghost use Rattle.machine.specs.State.{started, fresh};
 

@@ -3,10 +3,12 @@ ghost use mathlib.Core.Path.{_≡_};
 ghost use mathlib.Core.Bool.{true, _||_, not};
 ghost use Prim.Native.Nat.{_<_};
 ghost use lib.Dec.{eqb, ltb};
+ghost use lib.ListN.{set};
 ghost use Rattle.notation.specs.If.{if};
-ghost use Rattle.machine.specs.State.{proc, withProcess, withRegs};
+ghost use Rattle.machine.specs.declared.Machine.{Machine};
+ghost use Rattle.machine.specs.State.{proc, withProcess};
 ghost use Rattle.machine.specs.Classes.{push, setRunning, someReady};
-ghost use Rattle.machine.specs.Call.{born, createProcess, finish, stopAnswer, stopping, stopJob};
+ghost use Rattle.machine.specs.Call.{born, createProcess, finish, stopAnswer, stopJob};
 use crate::Machine;
 use crate::Process;
 use crate::Regs;
@@ -84,43 +86,48 @@ impl Machine {
     }
 
     // ---- call 5
-    // 0, or why the job cannot be stopped.
-    pub fn stop_answer(self, q: u16, reason: u16) -> u16
-        ensures { λ r. ⌜ r ≡ stopAnswer self q reason ⌝ }
-    {
-        if wide(self.created) <= q {
-            return 1;
-        }
-        if 10 <= q {
-            return 2;
-        }
-        let p = self.processes[q as usize];
-        answer_of(p.regs, reason)
-    }
-
-    pub fn stop_job(self, q: u16, reason: u16) -> Machine
+    // Where the answer is 0, the job of process q has a stop pending.
+    pub fn stop_job(mut self, q: u16, reason: u16) -> Machine
         ensures { λ r. ⌜ r ≡ stopJob self q reason ⌝ }
     {
-        let answer = self.stop_answer(q, reason);
-        if answer == 0 {
-            self.set_reason(q, reason)
-        } else {
-            self
-        }
-    }
-
-    fn set_reason(mut self, q: u16, reason: u16) -> Machine
-        ensures { λ r. ⌜ r ≡ withProcess self q (withRegs (proc self q) (stopping ((proc self q) .regs) reason)) ⌝ }
-    {
-        if q < 10 {
+        // of a process that is not there nothing changes
+        let there = (q < wide(self.created)) & (q < 10);
+        if there {
             let mut p = self.processes[q as usize];
             let mut regs = p.regs;
-            regs.reason = reason;
-            p.regs = regs;
-            self.processes[q as usize] = p;
+            let answer = answer_of(regs, reason);
+            if answer == 0 {
+                regs.reason = reason;
+                p.regs = regs;
+                self.processes[q as usize] = p;
+            }
         }
         self
     }
+}
+
+// 0, or why the job cannot be stopped; p is the record of process i, whatever stands there.
+pub fn stop_answer(
+    processes: [Process; 10],
+    i: u8,
+    p: Process,
+    created: u8,
+    q: u16,
+    reason: u16,
+) -> u16
+    ensures { λ r. ⌜ ((m : Machine) → m .processes ≡ set processes i p → m .created ≡ created → r ≡ stopAnswer m q reason) ⌝ }
+{
+    if wide(created) <= q {
+        return 1;
+    }
+    if 10 <= q {
+        return 2;
+    }
+    if q == wide(i) {
+        return answer_of(p.regs, reason);
+    }
+    let other = processes[q as usize];
+    answer_of(other.regs, reason)
 }
 
 // Of a process there is: 2 no job, 3 reason outside 16 to 255, 4 already stopped.

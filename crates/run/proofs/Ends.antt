@@ -1,39 +1,40 @@
 -- How a burst of a sound state ends, and what the code that follows it needs
 use mathlib.Core.Path.{_≡_, refl, sym, ap, subst, _∙_}
-use mathlib.Core.Bool.{Bool, true, false, and-false}
+use mathlib.Core.Bool.{true, false, and-false}
 use mathlib.Core.List.{List}
 use Prim.Native.Nat.{ℕ, zero, suc, _+_, _-_, _*_, _<_, _≤_}
 use native.Mathlib.Omega.{arith}
-use lib.ListN.{length, set, take, drop}
-use lib.Seq.{drop-drop}
+use lib.ListN.{length, set}
+use lib.Seq.{drop-drop, getD-set-same, set-set}
 use lib.Dec.{ltb}
 use borrow.Author.Tests.{lt-ltb, le-leb}
 use borrow.Rule.Slice.PartMut.{midOf, putMid}
 use Rattle.notation.proofs.Upto.{split}
 use Rattle.machine.specs.declared.Regs.{Regs}
 use Rattle.machine.specs.declared.Process.{Process}
+use Rattle.machine.specs.declared.Gate.{Gate}
 use Rattle.machine.specs.declared.Machine.{Machine}
-use Rattle.machine.specs.State.{nobody, proc, floorOf, with, withProcess, withRegs}
+use Rattle.machine.specs.State.{nobody, noProcess, proc, floorOf, withProcess, withRegs}
 use Rattle.machine.specs.Store.{World, partOf, withPart}
 use Rattle.machine.specs.View.{View, Out, next, faults, calls, Effect}
 use Rattle.machine.specs.Instruction.{instruct}
 use Rattle.machine.specs.Classes.{selects}
 use Rattle.machine.specs.Call.{Called, on, starts, stops, kernel}
-use Rattle.machine.specs.Step.{view, Stepped, called}
+use Rattle.machine.specs.Step.{view, Stepped, called, halted}
 use Rattle.promises.proofs.Runs.{at-most, job-high}
-use Rattle.promises.proofs.Marks.{Asks, marked}
+use Rattle.promises.proofs.Marks.{marked}
 use Rattle.promises.proofs.Tested.{tested}
-use Rattle.promises.proofs.Calls.{Fine, goes, begins, halts, fine}
 use Rattle.promises.proofs.Stepping.{Able, private-long, able-fit, able-again}
 use Rattle.engine.specs.declared.burst.Burst.{Burst}
 use Rattle.engine.specs.declared.burst.End.{End}
 use Rattle.engine.specs.declared.burst.End.the-variants.{Budget, Call, Fault, Job, Unfit}
-use Rattle.engine.specs.Burst.{Bursted, bursted, moved, jobOver, goesOn, bursts}
-use Rattle.kernel.specs.declared.answer.Answer.{Answer}
-use Rattle.kernel.specs.Did.{Outcome, done, outcome, ready, traps}
-use Rattle.run.specs.Turn.{put, later, follows, turned, turn, quotaOf}
+use Rattle.engine.specs.Burst.{Bursted, moved, jobOver, goesOn, bursts}
+use Rattle.kernel.specs.declared.answer.Decision.{Decision}
+use Rattle.kernel.specs.declared.caller.Caller.{Caller}
+use Rattle.kernel.specs.Did.{Outcome, outcome, decided, callerOf, traps}
+use Rattle.run.specs.Turn.{put, later, follows, turn, quotaOf}
 use Rattle.run.specs.Said.{world}
-use Rattle.run.specs.Ran.{Accepted, settles, Small, Callable}
+use Rattle.run.specs.Ran.{Accepted, Small, Callable, Countable, counted, following, movedCaller, settled}
 use Rattle.run.proofs.Parts.{put-same, put-view, put-put}
 use Rattle.run.proofs.Turns.{few, room, own-long, burst-step, steps-on, runs-on, stays-on, is-fit}
 
@@ -52,11 +53,6 @@ module _ (code : List ℕ) (i : ℕ) (p : Process) (quota : ℕ) (common q : Lis
       let v : view code (world m common q) ≡ seenBy (partOf i q) = rw (r, s) in
       let h : record { burst = x; common = c; own = o } ≡ bursts quota (seenBy (partOf i q)) = rw z at e in
       rw (v, r) (ap (λ (b : Bursted). b .burst) h, ap (λ (b : Bursted). b .common) h, rw (z, ap (λ (b : Bursted). b .own) h, drop-drop 2048 (2048 * i) q))
-
--- ---- the running process put back with its new registers
-pub put-back : (m : Machine) (p q : Process) → p ≡ q → with m (set (m .processes) (m .running) p) (m .gates) (m .ready) (m .running) ≡ withProcess m (m .running) q
-unfolding withProcess
-put-back m p q e = rw e
 
 -- ---- how a burst ends: after at most so many instructions; a call and a fault are not counted yet
 abbrev pub Ends : List ℕ → End → World → ℕ → ℕ → Type 0
@@ -138,52 +134,11 @@ ends-well code w able runs (suc b) l =
     (λ t. rw (t, is-fit code w able runs) (end-first code w able runs 0 1 (omega arith) _ refl))
     (λ t. rw (t, is-fit code w able runs) (end-all code b w able runs t 0 (suc b) (omega arith)))
 
--- ---- a turn is what follows its burst
-module _ (code : List ℕ) (m : Machine) (c q : List ℕ) (budget : ℕ) (accepted : Accepted code (world m c q)) (runs : m .running < nobody) (some : 0 < budget) where
-  abbrev w : World
-  w = world m c q
-
-  pub able : Able code w
-  able = record { shape = accepted .shape; sound = accepted .sound; stores = accepted .stores; long = accepted .long }
-
-  pub fit-burst : (m .running < 10) × ((proc m (m .running)) .variables ≤ 2048) × (length q ≡ 20480)
-  fit-burst =
-      let o = able-fit code w able runs .ordered in
-      let high = job-high (length code) ((proc m (m .running)) .regs) (o .job) in
-      (runs, omega (arith, o .stack, o .frame, o .ceiling, high), private-long code w able)
-
-  module _ (quota : ℕ) (same : quota ≡ quotaOf m budget) (x : Burst) (c₁ q₁ : List ℕ)
-      (e : (x ≡ (bursts quota (view code w)) .burst) × (c₁ ≡ (bursts quota (view code w)) .common) × (q₁ ≡ withPart (m .running) ((bursts quota (view code w)) .own) q))
-      (n : Machine) (f : n ≡ withProcess m (m .running) (withRegs (proc m (m .running)) (x .regs)))
-      (en : End) (g : x .end ≡ en) where
-    follows-on : turn code (quotaOf m budget) w ≡ follows en (world n c₁ q₁) (x .count)
-    unfolding turn
-    follows-on = rw (f, ← g, e .0, e .1, e .2, same)
-
-    pub by-end : (r : Stepped) → r ≡ follows en (world n c₁ q₁) (x .count) → r ≡ turn code (quotaOf m budget) w
-    by-end r h = h ∙ sym follows-on
-
-    pub ends-at : Ends code en (world n c₁ q₁) (x .count) (quotaOf m budget)
-    ends-at = rw (f, ← g, e .0, e .1, e .2, same) (ends-well code w able runs budget some)
-
-    pub same-running : n .running ≡ m .running
-    unfolding withProcess
-    same-running = rw f
-
-  pub quota-most : quotaOf m budget ≤ budget
-  quota-most = split (selects m) (λ t. rw t (omega arith)) (λ t. rw t (omega arith))
-
 -- ---- a kernel call of a sound state
-fine-small : {x : Called} (f : ℕ) → Fine x → x ≡ stops f → f ≤ 9
-fine-small f (halts g l) e = let z : g ≡ f = cc in omega arith
-fine-small f (goes p) e = let z : _≡_ {A = ℕ} 0 1 = cc in absurd (omega arith)
-fine-small f (begins d p) e = let z : _≡_ {A = ℕ} 0 1 = cc in absurd (omega arith)
-
-pub callable : (code : List ℕ) (w : World) (k : ℕ) → Able code w → w .machine .running < nobody → (instruct (view code w)) .out ≡ calls k → Callable w k
+callable : (code : List ℕ) (w : World) (k : ℕ) → Able code w → w .machine .running < nobody → (instruct (view code w)) .out ≡ calls k → Callable w
 callable code w k able runs e =
     let f = able-fit code w able runs in
     let o = f .ordered in
-    let a : Asks (view code w) = rw e at (marked (view code w) f) in
     let s = tested (w .machine) (able .shape) (able .sound) in
     let n = s .placed .numbers in
     let short = at-most (w .machine .length) 16256 (n .header) (λ t. simp (t, and-false)) in
@@ -191,7 +146,7 @@ callable code w k able runs e =
     let r : Regs = (proc (w .machine) (w .machine .running)) .regs in
     record {
       stores = able .stores;
-      ready = rw (
+      able = rw (
         lt-ltb _ _ runs,
         le-leb 1 _ (n .some),
         le-leb _ 25 (n .fewGates),
@@ -200,28 +155,102 @@ callable code w k able runs e =
         le-leb (r .b) 4096 (omega (arith, o .ceiling, high)),
         le-leb (r .address) 16256 (omega (arith, o .address, able .long, short)),
       );
-      small = λ f h. fine-small f (fine w (record { placed = s .placed; runs = runs; free = a .free; past = rw (← able .long) (a .past) }) k) h;
     }
 
 -- what is done after it is what the definition does
-module _ (w : World) (k : ℕ) (can : Callable w k) (a : Answer) (c q : List ℕ) (e : done a c q ≡ traps w k) where
-  did-call : done a c q ≡ outcome w (kernel w k)
-  unfolding traps
-  did-call = e ∙ rw (can .stores, can .ready)
+settled-call : (w : World) (count : ℕ) (x : Called) → settled (outcome w x) (count + 1) ≡ later count (called w x)
+unfolding halted
+settled-call w count (on v) = refl
+settled-call w count (starts d v) = refl
+settled-call w count (stops f) = refl
 
-  settled : (x : Called) → settles ((outcome w x) .end) (record { machine = (outcome w x) .machine; common = (outcome w x) .common; private = (outcome w x) .private }) ≡ called w x
-  settled (on v) = refl
-  settled (starts d v) = refl
-  settled (stops f) = refl
+call-follows : (w : World) (k : ℕ) → Callable w → (count : ℕ) → settled (traps w k) (count + 1) ≡ later count (called w (kernel w k))
+unfolding traps
+call-follows w k can count = rw (can .stores, can .able) (settled-call w count (kernel w k))
 
-  pub settles-call : settles (a .end) (world (a .machine) c q) ≡ called w (kernel w k)
-  settles-call =
-      ap (λ (o : Outcome). settles (o .end) (record { machine = o .machine; common = o .common; private = o .private })) did-call ∙ settled (kernel w k)
+-- ---- what follows a burst, by its end
+settles : (code : List ℕ) (en : End) (v : World) (count most : ℕ) → Ends code en v count most → settled (following en v) (counted en count) ≡ follows en v count
+settles code Budget v count most h = refl
+settles code Job v count most h = refl
+settles code (Call k) v count most h = call-follows v k (callable code v k (h .1) (h .2) (h .3)) count
+settles code (Fault f) v count most h = settled-call v count (stops f)
+settles code Unfit v count most h = refl
 
-  small : (x : Called) → ((f : ℕ) → x ≡ stops f → f ≤ 9) → w .machine .running < 10 → Small ((outcome w x) .end) ((outcome w x) .machine)
-  small (on v) h l = tt
-  small (starts d v) h l = tt
-  small (stops f) h l = (h f refl, l)
+ends-small : (code : List ℕ) (en : End) (v : World) (count most : ℕ) → Ends code en v count most → Small en
+ends-small code Budget v count most h = tt
+ends-small code Job v count most h = tt
+ends-small code (Call k) v count most h = tt
+ends-small code (Fault f) v count most h = h .1
+ends-small code Unfit v count most h = tt
 
-  pub call-small : w .machine .running < 10 → Small (a .end) (a .machine)
-  call-small l = subst (λ (o : Outcome). Small (o .end) (o .machine)) (sym did-call) (small (kernel w k) (can .small) l)
+ends-countable : (code : List ℕ) (en : End) (v : World) (count most : ℕ) → most ≤ 4294967295 → Ends code en v count most → Countable en count
+ends-countable code Budget v count most l h = tt
+ends-countable code Job v count most l h = tt
+ends-countable code (Call k) v count most l h = omega (arith, l, h .0)
+ends-countable code (Fault f) v count most l h = omega (arith, l, h .0)
+ends-countable code Unfit v count most l h = tt
+
+-- the caller's record is put in its place once, whatever stood there
+decided-twice : (m : Machine) (p : Process) (d : Decision) (c q : List ℕ) → decided (withProcess m (m .running) p) d c q ≡ decided m d c q
+unfolding withProcess
+decided-twice m p d c q = rw (set-set (m .processes) (m .running) p (d .process))
+
+-- ---- a turn is what follows its burst
+module _ (code : List ℕ) (m : Machine) (c q : List ℕ) (budget : ℕ) (accepted : Accepted code (world m c q)) (runs : m .running < nobody) (some : 0 < budget) where
+  abbrev w : World
+  w = world m c q
+
+  able : Able code w
+  able = record { shape = accepted .shape; sound = accepted .sound; stores = accepted .stores; long = accepted .long }
+
+  pub fit-burst : (m .running < 10) × ((proc m (m .running)) .variables ≤ 2048) × (length q ≡ 20480)
+  fit-burst =
+      let o = able-fit code w able runs .ordered in
+      let high = job-high (length code) ((proc m (m .running)) .regs) (o .job) in
+      (runs, omega (arith, o .stack, o .frame, o .ceiling, high), private-long code w able)
+
+  quota-most : quotaOf m budget ≤ budget
+  quota-most = split (selects m) (λ t. rw t (omega arith)) (λ t. rw t (omega arith))
+
+  module _ (quota : ℕ) (same : quota ≡ quotaOf m budget) (x : Burst) (c₁ q₁ : List ℕ)
+      (e : (x ≡ (bursts quota (view code w)) .burst) × (c₁ ≡ (bursts quota (view code w)) .common) × (q₁ ≡ withPart (m .running) ((bursts quota (view code w)) .own) q)) where
+    -- the machine with the burst's registers
+    abbrev pub moved-on : Machine
+    moved-on = withProcess m (m .running) (withRegs (proc m (m .running)) (x .regs))
+
+    follows-on : turn code (quotaOf m budget) w ≡ follows (x .end) (world moved-on c₁ q₁) (x .count)
+    unfolding turn
+    follows-on = rw (e .0, e .1, e .2, same)
+
+    ends-at : Ends code (x .end) (world moved-on c₁ q₁) (x .count) (quotaOf m budget)
+    ends-at = rw (e .0, e .1, e .2, same) (ends-well code w able runs budget some)
+
+    pub small-end : Small (x .end)
+    small-end = ends-small code (x .end) (world moved-on c₁ q₁) (x .count) (quotaOf m budget) ends-at
+
+    pub countable-end : budget ≤ 4294967295 → Countable (x .end) (x .count)
+    countable-end l =
+        ends-countable code (x .end) (world moved-on c₁ q₁) (x .count) (quotaOf m budget) (omega (arith, l, quota-most)) ends-at
+
+    -- a call is told of its caller as it is after the burst
+    pub told-on : (who : Caller) → who ≡ callerOf m → movedCaller who (x .regs) ≡ callerOf moved-on
+    unfolding withProcess
+    told-on who f =
+        let l : m .running < length (m .processes) = few code w able runs in
+        rw (f, getD-set-same (m .processes) (m .running) (withRegs (proc m (m .running)) (x .regs)) noProcess l)
+
+    pub parts-on : (who who′ : Caller) → who ≡ callerOf m → who′ ≡ movedCaller who (x .regs) → (l : List Process) → m .processes ≡ l → moved-on .processes ≡ set l (who′ .number) (who′ .process)
+    unfolding withProcess
+    parts-on who who′ f g l e = rw (g, f, e)
+
+    pub gates-on : (l : List Gate) → m .gates ≡ l → moved-on .gates ≡ l
+    unfolding withProcess
+    gates-on l e = e
+
+    pub turned-on : (d : Decision) (c₂ q₂ : List ℕ) → decided moved-on d c₂ q₂ ≡ following (x .end) (world moved-on c₁ q₁)
+        → settled (decided m d c₂ q₂) (counted (x .end) (x .count)) ≡ turn code (quotaOf m budget) w
+    turned-on d c₂ q₂ h =
+        let y : decided m d c₂ q₂ ≡ following (x .end) (world moved-on c₁ q₁) = sym (decided-twice m (withRegs (proc m (m .running)) (x .regs)) d c₂ q₂) ∙ h in
+        ap (λ (o : Outcome). settled o (counted (x .end) (x .count))) y
+        ∙ settles code (x .end) (world moved-on c₁ q₁) (x .count) (quotaOf m budget) ends-at
+        ∙ sym follows-on

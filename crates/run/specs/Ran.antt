@@ -2,21 +2,26 @@
 use mathlib.Core.Path.{_≡_}
 use mathlib.Core.Bool.{Bool, true, false}
 use mathlib.Core.List.{List}
-use Prim.Native.Nat.{ℕ, _≤_, _<_}
+use Prim.Native.Nat.{ℕ, _+_, _≤_, _<_}
 use lib.ListN.{length}
+use Rattle.notation.specs.If.{if}
+use Rattle.machine.specs.declared.Regs.{Regs}
 use Rattle.machine.specs.declared.Machine.{Machine}
+use Rattle.machine.specs.State.{nobody, withRegs}
 use Rattle.machine.specs.Store.{World}
 use Rattle.machine.specs.Sound.{sound}
-use Rattle.machine.specs.Call.{stops, kernel}
-use Rattle.machine.specs.Step.{onward, starting, stopped, Stepped, stepped, selected, halted}
+use Rattle.machine.specs.Call.{stops}
+use Rattle.machine.specs.Step.{Ended, onward, idle, starting, stopped, Stepped, stepped, selected}
 use Rattle.machine.specs.Offer.{storesFit}
 use Rattle.promises.specs.SoundKept.{Shaped}
-use Rattle.kernel.specs.declared.answer.End.{End as CallEnd}
-use Rattle.kernel.specs.declared.answer.End.the-variants.{On, Starts, Stops, Unfit}
-use Rattle.kernel.specs.Did.{ready}
+use Rattle.engine.specs.declared.burst.End.{End as BurstEnd}
+use Rattle.engine.specs.declared.burst.End.the-variants.{Budget, Call, Fault, Job, Unfit}
+use Rattle.kernel.specs.declared.caller.Caller.{Caller}
+use Rattle.kernel.specs.Did.{Outcome, outcome, able, callerOf, traps}
 use Rattle.run.specs.declared.answer.Ended.{Ended as End}
 use Rattle.run.specs.declared.answer.Ended.the-variants.{Onward, Idle, Starting, Stopped}
 use Rattle.run.specs.declared.answer.Ran.{Ran}
+use Rattle.run.specs.Turn.{quotaOf}
 use Rattle.run.specs.Said.{world, endOf}
 
 abbrev pub ran : Ran → List ℕ → List ℕ → Stepped
@@ -35,21 +40,66 @@ pub record Accepted (code : List ℕ) (w : World) : Type 0 where
   pub stores : storesFit (w .common) (w .private) ≡ true
   pub long : length code ≡ w .machine .length
 
--- ---- after a kernel call: the selection, or the stop
-abbrev pub settles : CallEnd → World → Stepped
-settles On v = stepped (selected v) onward 1
-settles (Starts d) v = stepped (selected v) (starting d) 1
-settles (Stops f) v = halted v f
-settles Unfit v = stepped v stopped 0
+-- a caller with other registers
+abbrev pub movedCaller : Caller → Regs → Caller
+movedCaller who r =
+    record { number = who .number; process = withRegs (who .process) r; seconds = who .seconds; created = who .created; made = who .made; length = who .length; present = who .present; devices = who .devices }
 
--- a stop has a number of the table, and a process that runs
-abbrev pub Small : CallEnd → Machine → Type 0
-Small On m = Unit {0}
-Small (Starts d) m = Unit {0}
-Small (Stops f) m = (f ≤ 9) × (m .running < 10)
-Small Unfit m = Unit {0}
+-- the running process of such a world, as a turn is told of it, and its quota
+pub record Going (who : Caller) (quota : ℕ) (code c q : List ℕ) : Type 0 where
+  pub machine : Machine
+  pub budget : ℕ
+  pub told : who ≡ callerOf machine
+  pub given : quota ≡ quotaOf machine budget
+  pub some : 0 < budget
+  pub most : budget ≤ 4294967295
+  pub accepted : Accepted code (world machine c q)
+  pub runs : machine .running < nobody
 
-pub record Callable (w : World) (k : ℕ) : Type 0 where
+-- ---- what follows a burst that led to the world v, before the selection
+abbrev pub following : BurstEnd → World → Outcome
+following Budget v = record { machine = v .machine; common = v .common; private = v .private; end = onward }
+following Job v = record { machine = v .machine; common = v .common; private = v .private; end = onward }
+following (Call k) v = traps v k
+following (Fault f) v = outcome v (stops f)
+following Unfit v = record { machine = v .machine; common = v .common; private = v .private; end = stopped }
+
+-- a fault has a number of the table
+abbrev pub Small : BurstEnd → Type 0
+Small Budget = Unit {0}
+Small Job = Unit {0}
+Small (Call k) = Unit {0}
+Small (Fault f) = f ≤ 9
+Small Unfit = Unit {0}
+
+-- a call and a fault are not counted by their burst
+abbrev pub counted : BurstEnd → ℕ → ℕ
+counted Budget k = k
+counted Job k = k
+counted (Call c) k = k + 1
+counted (Fault f) k = k + 1
+counted Unfit k = 0
+
+abbrev pub Countable : BurstEnd → ℕ → Type 0
+Countable Budget k = Unit {0}
+Countable Job k = Unit {0}
+Countable (Call c) k = k < 4294967295
+Countable (Fault f) k = k < 4294967295
+Countable Unfit k = Unit {0}
+
+-- ---- the selection, but for a stop
+abbrev pub isStopped : Ended → Bool
+isStopped onward = false
+isStopped idle = false
+isStopped (starting d) = false
+isStopped stopped = true
+
+abbrev pub settled : Outcome → ℕ → Stepped
+settled o k =
+    let v : World = record { machine = o .machine; common = o .common; private = o .private } in
+    stepped (if (isStopped (o .end)) v (selected v)) (o .end) k
+
+-- what a kernel call needs of a world
+pub record Callable (w : World) : Type 0 where
   pub stores : storesFit (w .common) (w .private) ≡ true
-  pub ready : ready (w .machine) ≡ true
-  pub small : (f : ℕ) → kernel w k ≡ stops f → f ≤ 9
+  pub able : able (callerOf (w .machine)) ≡ true

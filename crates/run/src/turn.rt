@@ -1,102 +1,48 @@
 // Turns: a burst of the running process, and the selection, the kernel call or the stop that follows it.
 ghost use mathlib.Core.Path.{_≡_};
-ghost use mathlib.Core.List.{List};
-ghost use Prim.Native.Nat.{ℕ, _≤_, _<_};
-ghost use lib.ListN.{length};
+ghost use mathlib.Core.Bool.{_&&_, not};
+ghost use Prim.Native.Nat.{ℕ, _+_, _≤_, _<_};
+ghost use lib.Dec.{ltb};
+ghost use lib.ListN.{length, set};
+ghost use Rattle.notation.specs.If.{if};
 ghost use Rattle.machine.specs.declared.Machine.{Machine};
-ghost use Rattle.machine.specs.State.{proc, timed, withRegs};
+ghost use Rattle.machine.specs.State.{proc};
 ghost use Rattle.machine.specs.Store.{withPart};
-ghost use Rattle.machine.specs.Call.{kernel};
-ghost use Rattle.machine.specs.Step.{view, stopped, stepped, selected, halted, called};
+ghost use Rattle.machine.specs.Classes.{selects};
+ghost use Rattle.machine.specs.Step.{view};
 ghost use Rattle.machine.specs.Run.{run};
 ghost use Rattle.engine.specs.Burst.{bursts};
-ghost use Rattle.run.specs.Turn.{later, turn, quotaOf};
+ghost use Rattle.kernel.specs.declared.answer.Act.the-variants.{Stop};
+ghost use Rattle.kernel.specs.Did.{decided, callerOf, endOf as endOfAct};
+ghost use Rattle.run.specs.Turn.{turn, quotaOf};
 ghost use Rattle.run.specs.Said.{world, endOf};
-ghost use Rattle.run.specs.Ran.{ran, isOnward, Accepted, settles, Small, Callable};
+ghost use Rattle.run.specs.Ran.{ran, isOnward, isStopped, Accepted, Going, movedCaller, Small, counted, Countable, following, settled};
 use crate::answer::Ended;
 use crate::answer::Ran;
 use engine::Burst;
-use kernel::Answer;
+use kernel::Act;
+use kernel::Caller;
+use kernel::Decision;
+use machine::Gate;
 use machine::Machine;
 use machine::Process;
 use machine::Queue;
 use machine::Regs;
 
-// The machine stops with a number, at the running process's last line.
-fn halt(mut m: Machine, f: u16) -> Machine
-    requires { ⌜ (m .running < 10) × (f ≤ 9) ⌝ }
-    ensures { λ r. ⌜ r ≡ timed m f ((proc m (m .running)) .regs .line) (m .seconds) (m .fraction) ⌝ }
-{
-    let i = m.running;
-    let p = m.processes[i as usize];
-    let r = p.regs;
-    m.stop = f as u8;
-    m.line = r.line;
-    m
+// What a turn has decided, and how many instructions it counts.
+struct Turned {
+    decision: Decision,
+    count: u32,
 }
 
-// A process with other registers.
-fn with_regs(mut p: Process, r: Regs) -> Process
-    ensures { λ x. ⌜ x ≡ withRegs p r ⌝ }
+// A caller with other registers.
+fn with_regs(mut who: Caller, r: Regs) -> Caller
+    ensures { λ x. ⌜ x ≡ movedCaller who r ⌝ }
 {
+    let mut p = who.process;
     p.regs = r;
-    p
-}
-
-// The selection.
-fn goes_on(m: Machine, ended: Ended, count: u32) -> Ran
-    ensures { λ x. ⌜ ((c q : List ℕ) → ran x c q ≡ stepped (selected (world m c q)) (endOf ended) count) ⌝ }
-{
-    Ran {
-        machine: m.select(),
-        ended,
-        count,
-    }
-}
-
-fn stops(m: Machine, f: u16, count: u32) -> Ran
-    requires { ⌜ (m .running < 10) × (f ≤ 9) × (count < 4294967295) ⌝ }
-    ensures { λ x. ⌜ ((c q : List ℕ) → ran x c q ≡ later count (halted (world m c q) f)) ⌝ }
-{
-    Ran {
-        machine: halt(m, f),
-        ended: Ended::Stopped,
-        count: count + 1,
-    }
-}
-
-// The process or a store was not fit to go on: from a sound state that does not happen.
-fn unfit(m: Machine, count: u32) -> Ran
-    ensures { λ x. ⌜ ((c q : List ℕ) → ran x c q ≡ stepped (world m c q) stopped count) ⌝ }
-{
-    Ran {
-        machine: m,
-        ended: Ended::Stopped,
-        count,
-    }
-}
-
-// What follows a kernel call.
-fn settle(a: Answer, count: u32) -> Ran
-    requires { ⌜ Small (a .end) (a .machine) × (count < 4294967295) ⌝ }
-    ensures { λ x. ⌜ ((c q : List ℕ) → ran x c q ≡ later count (settles (a .end) (world (a .machine) c q))) ⌝ }
-{
-    let end = a.end;
-    match end {
-        kernel::End::On => goes_on(a.machine, Ended::Onward, count + 1),
-        kernel::End::Starts(d) => goes_on(a.machine, Ended::Starting(d), count + 1),
-        kernel::End::Stops(f) => stops(a.machine, f, count),
-        kernel::End::Unfit => unfit(a.machine, count),
-    }
-}
-
-// A kernel call of the running process.
-fn call(m: Machine, k: u16, count: u32, common: &mut [u16], private: &mut [u16]) -> Ran
-    requires { ⌜ Callable (world m (now common) (now private)) k × (count < 4294967295) ⌝ }
-    ensures { λ x. ⌜ ran x (now (common .exit)) (now (private .exit)) ≡ later count (called (world m (now (common .entry)) (now (private .entry))) (kernel (world m (now (common .entry)) (now (private .entry))) k)) ⌝ }
-{
-    let a = kernel::trap(m, k, common, private);
-    settle(a, count)
+    who.process = p;
+    who
 }
 
 // Where a better class is ready when the turn begins, it is one instruction long.
@@ -134,26 +80,99 @@ fn burst(
     )
 }
 
-// A burst, and what follows it.
-fn turn(mut m: Machine, code: &[u16], budget: u32, common: &mut [u16], private: &mut [u16]) -> Ran
-    requires { ⌜ Accepted (now code) (world m (now common) (now private)) × (m .running < 10) × (0 < budget) ⌝ }
-    ensures { λ x. ⌜ ran x (now (common .exit)) (now (private .exit)) ≡ turn (now (code .entry)) (quotaOf m budget) (world m (now (common .entry)) (now (private .entry))) ⌝ }
+// The caller's record stays as it is.
+fn keeps(who: Caller, act: Act) -> Decision
+    ensures { λ x. ⌜ x ≡ record { process = who .process; act = act } ⌝ }
 {
-    let i = m.running;
-    let p = m.processes[i as usize];
-    let quota = quota_of(m.ready, p.class, budget);
-    let x = burst(i, p, code, quota, common, private);
-    let regs = x.regs;
-    let count = x.count;
-    let end = x.end;
-    let new = with_regs(p, regs);
-    m.processes[i as usize] = new;
+    let process = who.process;
+    Decision { process, act }
+}
+
+// A stop at the caller's last line.
+fn stops(who: Caller, f: u16) -> Decision
+    requires { ⌜ f ≤ 9 ⌝ }
+    ensures { λ x. ⌜ x ≡ record { process = who .process; act = Stop f (who .process .regs .line) } ⌝ }
+{
+    let p = who.process;
+    let r = p.regs;
+    keeps(who, Act::Stop(f as u8, r.line))
+}
+
+// What follows a burst, by its end.
+fn follow(
+    who: Caller,
+    processes: [Process; 10],
+    gates: [Gate; 25],
+    end: engine::End,
+    common: &mut [u16],
+    private: &mut [u16],
+) -> Decision
+    requires { ⌜ Small end ⌝ }
+    ensures { λ x. ⌜ ((m : Machine) → who ≡ callerOf m → m .processes ≡ set processes (who .number) (who .process) → m .gates ≡ gates → decided m x (now (common .exit)) (now (private .exit)) ≡ following end (world m (now (common .entry)) (now (private .entry)))) ⌝ }
+{
     match end {
-        engine::End::Budget => goes_on(m, Ended::Onward, count),
-        engine::End::Job => goes_on(m, Ended::Onward, count),
-        engine::End::Call(k) => call(m, k, count, common, private),
-        engine::End::Fault(f) => stops(m, f, count),
-        engine::End::Unfit => unfit(m, 0),
+        engine::End::Budget => keeps(who, Act::Go),
+        engine::End::Job => keeps(who, Act::Go),
+        engine::End::Call(k) => kernel::decide(who, processes, gates, k, common, private),
+        engine::End::Fault(f) => stops(who, f),
+        engine::End::Unfit => keeps(who, Act::Unfit),
+    }
+}
+
+// A call and a fault are not counted by their burst.
+fn total(end: engine::End, count: u32) -> u32
+    requires { ⌜ Countable end count ⌝ }
+    ensures { λ r. ⌜ r ≡ counted end count ⌝ }
+{
+    match end {
+        engine::End::Budget => count,
+        engine::End::Job => count,
+        engine::End::Call(_) => count + 1,
+        engine::End::Fault(_) => count + 1,
+        engine::End::Unfit => 0,
+    }
+}
+
+// A burst of the caller, and what is decided after it.
+fn turn(
+    who: Caller,
+    quota: u32,
+    processes: [Process; 10],
+    gates: [Gate; 25],
+    code: &[u16],
+    common: &mut [u16],
+    private: &mut [u16],
+) -> Turned
+    requires { ⌜ Going who quota (now code) (now common) (now private) ⌝ }
+    ensures { λ x. ⌜ ((m : Machine) (budget : ℕ) → who ≡ callerOf m → m .processes ≡ processes → m .gates ≡ gates → quota ≡ quotaOf m budget → 0 < budget → Accepted (now (code .entry)) (world m (now (common .entry)) (now (private .entry))) → settled (decided m (x .decision) (now (common .exit)) (now (private .exit))) (x .count) ≡ turn (now (code .entry)) quota (world m (now (common .entry)) (now (private .entry)))) ⌝ }
+{
+    let p = who.process;
+    let x = burst(who.number, p, code, quota, common, private);
+    let end = x.end;
+    let count = total(end, x.count);
+    let new = with_regs(who, x.regs);
+    let decision = follow(new, processes, gates, end, common, private);
+    Turned { decision, count }
+}
+
+fn ended_of(act: Act) -> Ended
+    ensures { λ r. ⌜ endOf r ≡ endOfAct act ⌝ }
+{
+    match act {
+        Act::Unfit => Ended::Stopped,
+        Act::Stop(_, _) => Ended::Stopped,
+        Act::Go => Ended::Onward,
+        Act::WaitClock => Ended::Onward,
+        Act::WaitBell => Ended::Onward,
+        Act::Create(_, _) => Ended::Onward,
+        Act::Finish => Ended::Onward,
+        Act::StopJob(_, _) => Ended::Onward,
+        Act::Enter(_) => Ended::Onward,
+        Act::Leave(_) => Ended::Onward,
+        Act::Delay(_, _) => Ended::Onward,
+        Act::Continue(_, _) => Ended::Onward,
+        Act::MakeGate => Ended::Onward,
+        Act::Start(d, _, _) => Ended::Starting(d),
     }
 }
 
@@ -168,9 +187,40 @@ fn is_onward(e: Ended) -> bool
     }
 }
 
-// Turns to the budget, to idle, to a device's start or to a stop.
+fn is_stopped(e: Ended) -> bool
+    ensures { λ r. ⌜ r ≡ isStopped (endOf e) ⌝ }
+{
+    match e {
+        Ended::Onward => false,
+        Ended::Idle => false,
+        Ended::Starting(_) => false,
+        Ended::Stopped => true,
+    }
+}
+
+// Whether the selection changes the machine: it follows each turn that does not stop.
+fn displaces(ended: Ended, ready: [Queue; 3], class: u8) -> bool
+    ensures { λ r. ⌜ ((m : Machine) → m .ready ≡ ready → class ≡ if (ltb (m .running) 10) ((proc m (m .running)) .class) 3 → r ≡ (not (isStopped (endOf ended)) && selects m)) ⌝ }
+{
+    let stopped = is_stopped(ended);
+    let better = machine::is_better_ready(ready, class);
+    !stopped & better
+}
+
+fn so_far(machine: Machine, ended: Ended, count: u32) -> Ran
+    ensures { λ x. ⌜ x ≡ record { machine = machine; ended = ended; count = count } ⌝ }
+{
+    Ran {
+        machine,
+        ended,
+        count,
+    }
+}
+
+// Turns to the budget, to idle, to a device's start or to a stop. What is no move of the machine is done on parts of it, or in
+// place: a function that is given the machine keeps a copy.
 pub(crate) fn turns(
-    m: Machine,
+    mut m: Machine,
     code: &[u16],
     budget: u32,
     common: &mut [u16],
@@ -179,32 +229,46 @@ pub(crate) fn turns(
     requires { ⌜ Accepted (now code) (world m (now common) (now private)) ⌝ }
     ensures { λ x. ⌜ ran x (now (common .exit)) (now (private .exit)) ≡ run (now (code .entry)) budget (world m (now (common .entry)) (now (private .entry))) ⌝ }
 {
-    let mut machine = m;
     let mut count: u32 = 0;
     while count < budget {
-        if Machine::NOBODY <= machine.running {
-            return Ran {
-                machine,
-                ended: Ended::Idle,
-                count,
-            };
+        let i = m.running;
+        if Machine::NOBODY <= i {
+            return so_far(m, Ended::Idle, count);
         }
-        let t = turn(machine, code, budget - count, common, private);
-        let ended = t.ended;
-        machine = t.machine;
-        count = count + t.count;
+        let process = m.processes[i as usize];
+        let who = Caller {
+            number: i,
+            process,
+            seconds: m.seconds,
+            created: m.created,
+            made: m.made,
+            length: m.length,
+            present: m.present,
+            devices: m.devices,
+        };
+        let quota = quota_of(m.ready, process.class, budget - count);
+        let x = turn(who, quota, m.processes, m.gates, code, common, private);
+        let d = x.decision;
+        let after = d.process;
+        m.processes[i as usize] = after;
+        let act = d.act;
+        m = kernel::perform(m, act);
+        count = count + x.count;
+        let ended = ended_of(act);
+        let j = m.running;
+        let mut class: u8 = 3;
+        if j < Machine::NOBODY {
+            let next = m.processes[j as usize];
+            class = next.class;
+        }
+        let displaced = displaces(ended, m.ready, class);
+        if displaced {
+            m = m.select();
+        }
         let on = is_onward(ended);
         if !on {
-            return Ran {
-                machine,
-                ended,
-                count,
-            };
+            return so_far(m, ended, count);
         }
     }
-    Ran {
-        machine,
-        ended: Ended::Onward,
-        count,
-    }
+    so_far(m, Ended::Onward, count)
 }

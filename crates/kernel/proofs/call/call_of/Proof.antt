@@ -1,6 +1,7 @@
-use borrow.Author.Needs.{needs}
 use Rattle.machine.specs.Call.{kernel}
+use Rattle.kernel.proofs.Laws.{same-process}
 use Rattle.kernel.proofs.Door.{no-call}
+use borrow.Author.Needs.{needs}
 use Rattle.kernel.proofs.call.call_of.Statement.{statement}
 use Rattle.kernel.proofs.call.call_of.Tie as tie
 
@@ -46,7 +47,7 @@ stops-requires c κs = search needs
 returns : tie.Need-returns
 unfolding kernel
 returns c =
-    rw (c .before .match .keys1) (c .call0 .ensures _ _)
+    λ m t p g. rw (c .before .match .keys1) (c .call0 .ensures m t _ _)
 
 same-length : tie.Need-same-length
 same-length c = search needs
@@ -54,7 +55,7 @@ same-length c = search needs
 returns-2 : tie.Need-returns-2
 unfolding kernel
 returns-2 c =
-    rw (c .before .before .before .before .match .keys2) (c .before .before .call1 .ensures _)
+    λ m t p g. rw (c .before .before .before .before .match .keys2) (c .before .before .call1 .ensures m t _)
 
 same-length-2 : tie.Need-same-length-2
 same-length-2 c = search needs
@@ -62,7 +63,7 @@ same-length-2 c = search needs
 returns-3 : tie.Need-returns-3
 unfolding kernel
 returns-3 c =
-    rw (c .before .before .match .keys3) (c .call2 .ensures _)
+    λ m t p g. rw (c .before .before .match .keys3) (c .call2 .ensures m t _)
 
 same-length-3 : tie.Need-same-length-3
 same-length-3 c = search needs
@@ -70,12 +71,12 @@ same-length-3 c = search needs
 returns-4 : tie.Need-returns-4
 unfolding kernel
 returns-4 c =
-    rw (c .before .before .before .before .match .keys4) (c .before .before .call3 .ensures _)
+    λ m t p g. rw (c .before .before .before .before .match .keys4) (c .before .before .call3 .ensures m t _)
 
 returns-5 : tie.Need-returns-5
 unfolding kernel
 returns-5 c =
-    rw (c .before .match .keys5) (c .call4 .ensures _ _)
+    λ m t p g. rw (c .before .match .keys5) (c .call4 .ensures m t _ _)
 
 same-length-4 : tie.Need-same-length-4
 same-length-4 c = search needs
@@ -83,7 +84,7 @@ same-length-4 c = search needs
 returns-6 : tie.Need-returns-6
 unfolding kernel
 returns-6 c =
-    rw (c .before .before .before .before .match .keys6) (c .before .before .call5 .ensures _)
+    λ m t p g. rw (c .before .before .before .before .match .keys6) (c .before .before .call5 .ensures m t p _)
 
 same-length-5 : tie.Need-same-length-5
 same-length-5 c = search needs
@@ -91,7 +92,7 @@ same-length-5 c = search needs
 returns-7 : tie.Need-returns-7
 unfolding kernel
 returns-7 c =
-    rw (c .before .before .match .keys7) (c .call6 .ensures _)
+    λ m t p g. rw (c .before .before .match .keys7) (c .call6 .ensures m t g _)
 
 same-length-6 : tie.Need-same-length-6
 same-length-6 c = search needs
@@ -99,7 +100,7 @@ same-length-6 c = search needs
 returns-8 : tie.Need-returns-8
 unfolding kernel
 returns-8 c =
-    rw (c .before .before .match .keys8) (c .call7 .ensures _)
+    λ m t p g. rw (c .before .before .match .keys8) (c .call7 .ensures m t _)
 
 same-length-7 : tie.Need-same-length-7
 same-length-7 c = search needs
@@ -107,7 +108,7 @@ same-length-7 c = search needs
 returns-9 : tie.Need-returns-9
 unfolding kernel
 returns-9 c =
-    rw (c .before .before .match .keys9) (c .call8 .ensures _)
+    λ m t p g. rw (c .before .before .match .keys9) (c .call8 .ensures m t g _)
 
 same-length-8 : tie.Need-same-length-8
 same-length-8 c = search needs
@@ -115,7 +116,7 @@ same-length-8 c = search needs
 returns-10 : tie.Need-returns-10
 unfolding kernel
 returns-10 c =
-    rw (c .before .before .match .keys10) (c .call9 .ensures _)
+    λ m t p g. rw (c .before .before .match .keys10) (c .call9 .ensures m t _)
 
 same-length-9 : tie.Need-same-length-9
 same-length-9 c = search needs
@@ -123,7 +124,7 @@ same-length-9 c = search needs
 returns-11 : tie.Need-returns-11
 unfolding kernel
 returns-11 c =
-    rw (c .before .before .before .before .match .keys11) (c .before .before .call10 .ensures _)
+    λ m t p g. rw (c .before .before .before .before .match .keys11) (c .before .before .call10 .ensures m t _)
 
 same-length-10 : tie.Need-same-length-10
 same-length-10 c = search needs
@@ -134,11 +135,11 @@ same-length-11 c = search needs
 returns-12 : tie.Need-returns-12
 unfolding kernel
 returns-12 c =
-    rw (c .before .before .before .before .before .before .before .match .keys12) (c .before .before .before .before .call11 .ensures)
+    λ m t p g. rw (c .before .before .before .before .before .before .before .match .keys12) (c .before .before .before .before .call11 .ensures m t)
 
 returns-13 : tie.Need-returns-13
 returns-13 c =
-    rw (c .stops .ensures) (no-call _ _ (c .before .match .rest))
+    λ m t p g. rw (c .stops .ensures, t .caller, same-process m) (no-call m _ _ _ (c .before .match .rest))
 
 pub call-of-spec : {M : Type 1} → statement M
 call-of-spec =

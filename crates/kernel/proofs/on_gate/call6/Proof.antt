@@ -1,7 +1,8 @@
 use mathlib.Core.Path.{_∙_, sym}
 use native.Mathlib.Omega.{arith}
+use Rattle.kernel.proofs.Laws.{call6-few, call6-gate, call6-goes, has-words, same-process, words-there}
+use Rattle.machine.specs.Call.{passed}
 use borrow.Author.Needs.{needs}
-use Rattle.kernel.proofs.Laws.{call6-few, call6-gate, call6-goes, has-words, words-there}
 use Rattle.kernel.proofs.on_gate.call6.Statement.{statement}
 use Rattle.kernel.proofs.on_gate.call6.Tie as tie
 
@@ -10,7 +11,7 @@ has-words-requires c κs = search needs
 
 stack-word-requires : tie.Need-stack-word-requires
 stack-word-requires c κs =
-    let f = words-there (c .before .before .before .before .before .args .m) _ 1 _ (c .before .before .before .before .before .pre .0) (c .before .before .before .before .before .pre .1) (c .before .has-words .ensures) (c .if1 .taken) in (f .runs, f .low, omega (arith, f .words, f .high), c .before .before .before .before .before .pre .2)
+    let f = words-there _ 1 _ (c .before .before .before .before .before .pre .0) (c .before .has-words .ensures) (c .if1 .taken) in (f .runs, f .low, omega (arith, f .words, f .high), c .before .before .before .before .before .pre .1)
 
 byte-requires : tie.Need-byte-requires
 byte-requires c κs = search needs
@@ -18,15 +19,8 @@ byte-requires c κs = search needs
 may-enter-requires : tie.Need-may-enter-requires
 may-enter-requires c κs = search needs
 
-add-passed : tie.Need-add-passed
-add-passed c =
-    let f = words-there (c .before .before .before .before .before .before .before .before .before .before .args .m) _ 1 _ (c .before .before .before .before .before .before .before .before .before .before .pre .0) (c .before .before .before .before .before .before .before .before .before .before .pre .1) (c .before .before .before .before .before .before .has-words .ensures) (c .before .before .before .before .before .if1 .taken) in omega (arith, f .words, f .high)
-
-passed-requires : tie.Need-passed-requires
-passed-requires c κs = search needs
-
-enter-requires : tie.Need-enter-requires
-enter-requires c κs = search needs
+add-goes : tie.Need-add-goes
+add-goes c = search needs
 
 goes-requires : tie.Need-goes-requires
 goes-requires c κs = search needs
@@ -38,16 +32,23 @@ stops-requires-2 : tie.Need-stops-requires-2
 stops-requires-2 c κs = search needs
 
 returns : tie.Need-returns
+unfolding passed
 returns c =
-    λ k. let e = has-words (c .before .before .before .before .before .before .before .before .before .before .before .before .before .args .m) _ 1 _ _ (c .before .before .before .before .before .before .before .before .before .before .before .before .before .pre .1) (c .before .before .before .before .before .before .before .before .before .has-words .ensures) (c .before .before .before .before .before .before .before .before .if1 .taken) in let n = rw (c .before .before .before .before .before .before .before .stack-word .ensures, c .before .before .before .before .before .before .before .before .before .before .before .before .before .pre .1) at (c .before .before .before .before .before .before .byte .ensures) in rw (c .goes .ensures, c .before .enter .ensures, c .before .before .passed .ensures, c .before .before .before .before .before .before .before .before .before .before .before .before .before .pre .1) (call6-goes (c .before .before .before .before .before .before .before .before .before .before .before .before .before .args .m) k _ _ e n (c .before .before .before .before .before .before .before .before .before .before .before .before .before .pre .0 .few) (sym (c .before .before .before .before .before .may-enter .ensures) ∙ c .before .before .before .before .if2 .taken))
+    λ m t g k. let e = has-words m _ 1 _ _ (t .caller) (c .before .before .before .before .before .before .before .has-words .ensures) (c .before .before .before .before .before .before .if1 .taken) in
+    let n = rw (c .before .before .before .before .before .stack-word .ensures, t .caller) at (c .before .before .before .before .byte .ensures) in
+    let few = rw (t .caller) at (c .before .before .before .before .before .before .before .before .before .before .before .pre .0 .few) in
+    rw (c .goes .ensures, t .caller) (call6-goes m k _ _ e n few (sym (c .before .before .before .may-enter .ensures m (rw (t .caller)) (rw (t .caller)) g (rw (t .caller))) ∙ c .before .before .if2 .taken))
 
 returns-2 : tie.Need-returns-2
 returns-2 c =
-    λ k. let e = has-words (c .before .before .before .before .before .before .before .before .before .before .args .m) _ 1 _ _ (c .before .before .before .before .before .before .before .before .before .before .pre .1) (c .before .before .before .before .before .before .has-words .ensures) (c .before .before .before .before .before .if1 .taken) in let n = rw (c .before .before .before .before .stack-word .ensures, c .before .before .before .before .before .before .before .before .before .before .pre .1) at (c .before .before .before .byte .ensures) in rw (c .stops .ensures) (call6-gate (c .before .before .before .before .before .before .before .before .before .before .args .m) k _ _ e n (c .before .before .before .before .before .before .before .before .before .before .pre .0 .few) (sym (c .before .before .may-enter .ensures) ∙ c .before .if2 .left))
+    λ m t g k. let e = has-words m _ 1 _ _ (t .caller) (c .before .before .before .before .before .before .has-words .ensures) (c .before .before .before .before .before .if1 .taken) in
+    let n = rw (c .before .before .before .before .stack-word .ensures, t .caller) at (c .before .before .before .byte .ensures) in
+    let few = rw (t .caller) at (c .before .before .before .before .before .before .before .before .before .before .pre .0 .few) in
+    rw (c .stops .ensures, t .caller, same-process m) (call6-gate m k _ _ e n few (sym (c .before .before .may-enter .ensures m (rw (t .caller)) (rw (t .caller)) g (rw (t .caller))) ∙ c .before .if2 .left))
 
 returns-3 : tie.Need-returns-3
 returns-3 c =
-    λ k. let e = has-words (c .before .before .before .before .before .before .args .m) _ 1 _ _ (c .before .before .before .before .before .before .pre .1) (c .before .before .has-words .ensures) (c .before .if1 .left) in rw (c .stops2 .ensures) (call6-few (c .before .before .before .before .before .before .args .m) k _ e)
+    λ m t g k. let e = has-words m _ 1 _ _ (t .caller) (c .before .before .has-words .ensures) (c .before .if1 .left) in rw (c .stops2 .ensures, t .caller, same-process m) (call6-few m k _ e)
 
 pub call6-spec : {M : Type 1} → statement M
 call6-spec =
@@ -57,9 +58,7 @@ call6-spec =
     stack-word-requires
     byte-requires
     may-enter-requires
-    add-passed
-    passed-requires
-    enter-requires
+    add-goes
     goes-requires
     stops-requires
     stops-requires-2

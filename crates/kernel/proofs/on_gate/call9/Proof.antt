@@ -1,7 +1,8 @@
 use mathlib.Core.Path.{_∙_, sym}
 use native.Mathlib.Omega.{arith}
+use Rattle.kernel.proofs.Laws.{call9-few, call9-gate, call9-goes, has-words, same-process, words-there}
+use Rattle.machine.specs.Call.{passed}
 use borrow.Author.Needs.{needs}
-use Rattle.kernel.proofs.Laws.{call9-few, call9-gate, call9-goes, has-words, words-there}
 use Rattle.kernel.proofs.on_gate.call9.Statement.{statement}
 use Rattle.kernel.proofs.on_gate.call9.Tie as tie
 
@@ -10,14 +11,14 @@ has-words-requires c κs = search needs
 
 stack-word-requires : tie.Need-stack-word-requires
 stack-word-requires c κs =
-    let f = words-there (c .before .before .before .before .before .args .m) _ 2 _ (c .before .before .before .before .before .pre .0) (c .before .before .before .before .before .pre .1) (c .before .has-words .ensures) (c .if1 .taken) in (f .runs, f .low, omega (arith, f .words, f .high), c .before .before .before .before .before .pre .2)
+    let f = words-there _ 2 _ (c .before .before .before .before .before .pre .0) (c .before .has-words .ensures) (c .if1 .taken) in (f .runs, f .low, omega (arith, f .words, f .high), c .before .before .before .before .before .pre .1)
 
 byte-requires : tie.Need-byte-requires
 byte-requires c κs = search needs
 
 stack-word-requires-2 : tie.Need-stack-word-requires-2
 stack-word-requires-2 c κs =
-    let f = words-there (c .before .before .before .before .before .before .before .args .m) _ 2 _ (c .before .before .before .before .before .before .before .pre .0) (c .before .before .before .before .before .before .before .pre .1) (c .before .before .before .has-words .ensures) (c .before .before .if1 .taken) in (f .runs, f .low, omega (arith, f .words, f .high), c .before .before .before .before .before .before .before .pre .2)
+    let f = words-there _ 2 _ (c .before .before .before .before .before .before .before .pre .0) (c .before .before .before .has-words .ensures) (c .before .before .if1 .taken) in (f .runs, f .low, omega (arith, f .words, f .high), c .before .before .before .before .before .before .before .pre .1)
 
 byte-requires-2 : tie.Need-byte-requires-2
 byte-requires-2 c κs = search needs
@@ -25,15 +26,8 @@ byte-requires-2 c κs = search needs
 may-continue-requires : tie.Need-may-continue-requires
 may-continue-requires c κs = search needs
 
-add-passed : tie.Need-add-passed
-add-passed c =
-    let f = words-there (c .before .before .before .before .before .before .before .before .before .before .before .before .args .m) _ 2 _ (c .before .before .before .before .before .before .before .before .before .before .before .before .pre .0) (c .before .before .before .before .before .before .before .before .before .before .before .before .pre .1) (c .before .before .before .before .before .before .before .before .has-words .ensures) (c .before .before .before .before .before .before .before .if1 .taken) in omega (arith, f .words, f .high)
-
-passed-requires : tie.Need-passed-requires
-passed-requires c κs = search needs
-
-continue-cell-requires : tie.Need-continue-cell-requires
-continue-cell-requires c κs = search needs
+add-goes : tie.Need-add-goes
+add-goes c = search needs
 
 goes-requires : tie.Need-goes-requires
 goes-requires c κs = search needs
@@ -45,16 +39,25 @@ stops-requires-2 : tie.Need-stops-requires-2
 stops-requires-2 c κs = search needs
 
 returns : tie.Need-returns
+unfolding passed
 returns c =
-    λ k. let e = has-words (c .before .before .before .before .before .before .before .before .before .before .before .before .before .before .before .args .m) _ 2 _ _ (c .before .before .before .before .before .before .before .before .before .before .before .before .before .before .before .pre .1) (c .before .before .before .before .before .before .before .before .before .before .before .has-words .ensures) (c .before .before .before .before .before .before .before .before .before .before .if1 .taken) in let a = rw (c .before .before .before .before .before .before .before .before .before .stack-word .ensures, c .before .before .before .before .before .before .before .before .before .before .before .before .before .before .before .pre .1) at (c .before .before .before .before .before .before .before .before .byte .ensures) in let b = rw (c .before .before .before .before .before .before .before .stack-word2 .ensures, c .before .before .before .before .before .before .before .before .before .before .before .before .before .before .before .pre .1) at (c .before .before .before .before .before .before .byte2 .ensures) in rw (c .goes .ensures, c .before .continue-cell .ensures, c .before .before .passed .ensures, c .before .before .before .before .before .before .before .before .before .before .before .before .before .before .before .pre .1) (call9-goes (c .before .before .before .before .before .before .before .before .before .before .before .before .before .before .before .args .m) k _ _ _ e a b (c .before .before .before .before .before .before .before .before .before .before .before .before .before .before .before .pre .0 .few) (sym (c .before .before .before .before .before .may-continue .ensures) ∙ c .before .before .before .before .if2 .taken))
+    λ m t k. let e = has-words m _ 2 _ _ (t .caller) (c .before .before .before .before .before .before .before .before .before .has-words .ensures) (c .before .before .before .before .before .before .before .before .if1 .taken) in
+    let a = rw (c .before .before .before .before .before .before .before .stack-word .ensures, t .caller) at (c .before .before .before .before .before .before .byte .ensures) in
+    let b = rw (c .before .before .before .before .before .stack-word2 .ensures, t .caller) at (c .before .before .before .before .byte2 .ensures) in
+    let few = rw (t .caller) at (c .before .before .before .before .before .before .before .before .before .before .before .before .before .pre .0 .few) in
+    rw (c .goes .ensures, t .caller) (call9-goes m k _ _ _ e a b few (sym (c .before .before .before .may-continue .ensures m (rw (t .caller)) (rw (t .caller))) ∙ c .before .before .if2 .taken))
 
 returns-2 : tie.Need-returns-2
 returns-2 c =
-    λ k. let e = has-words (c .before .before .before .before .before .before .before .before .before .before .before .before .args .m) _ 2 _ _ (c .before .before .before .before .before .before .before .before .before .before .before .before .pre .1) (c .before .before .before .before .before .before .before .before .has-words .ensures) (c .before .before .before .before .before .before .before .if1 .taken) in let a = rw (c .before .before .before .before .before .before .stack-word .ensures, c .before .before .before .before .before .before .before .before .before .before .before .before .pre .1) at (c .before .before .before .before .before .byte .ensures) in let b = rw (c .before .before .before .before .stack-word2 .ensures, c .before .before .before .before .before .before .before .before .before .before .before .before .pre .1) at (c .before .before .before .byte2 .ensures) in rw (c .stops .ensures) (call9-gate (c .before .before .before .before .before .before .before .before .before .before .before .before .args .m) k _ _ _ e a b (c .before .before .before .before .before .before .before .before .before .before .before .before .pre .0 .few) (sym (c .before .before .may-continue .ensures) ∙ c .before .if2 .left))
+    λ m t k. let e = has-words m _ 2 _ _ (t .caller) (c .before .before .before .before .before .before .before .before .has-words .ensures) (c .before .before .before .before .before .before .before .if1 .taken) in
+    let a = rw (c .before .before .before .before .before .before .stack-word .ensures, t .caller) at (c .before .before .before .before .before .byte .ensures) in
+    let b = rw (c .before .before .before .before .stack-word2 .ensures, t .caller) at (c .before .before .before .byte2 .ensures) in
+    let few = rw (t .caller) at (c .before .before .before .before .before .before .before .before .before .before .before .before .pre .0 .few) in
+    rw (c .stops .ensures, t .caller, same-process m) (call9-gate m k _ _ _ e a b few (sym (c .before .before .may-continue .ensures m (rw (t .caller)) (rw (t .caller))) ∙ c .before .if2 .left))
 
 returns-3 : tie.Need-returns-3
 returns-3 c =
-    λ k. let e = has-words (c .before .before .before .before .before .before .args .m) _ 2 _ _ (c .before .before .before .before .before .before .pre .1) (c .before .before .has-words .ensures) (c .before .if1 .left) in rw (c .stops2 .ensures) (call9-few (c .before .before .before .before .before .before .args .m) k _ e)
+    λ m t k. let e = has-words m _ 2 _ _ (t .caller) (c .before .before .has-words .ensures) (c .before .if1 .left) in rw (c .stops2 .ensures, t .caller, same-process m) (call9-few m k _ e)
 
 pub call9-spec : {M : Type 1} → statement M
 call9-spec =
@@ -66,9 +69,7 @@ call9-spec =
     stack-word-requires-2
     byte-requires-2
     may-continue-requires
-    add-passed
-    passed-requires
-    continue-cell-requires
+    add-goes
     goes-requires
     stops-requires
     stops-requires-2

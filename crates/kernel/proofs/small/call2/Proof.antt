@@ -1,7 +1,7 @@
 use native.Mathlib.Omega.{arith}
 use borrow.Author.Tests.{le-leb, lt-leb}
+use Rattle.kernel.proofs.Laws.{call2-few, call2-other, call2-stops, has-words, same-process, words-there}
 use borrow.Author.Needs.{needs}
-use Rattle.kernel.proofs.Laws.{has-words, words-there, call2-few, call2-other, call2-stops}
 use Rattle.kernel.proofs.small.call2.Statement.{statement}
 use Rattle.kernel.proofs.small.call2.Tie as tie
 
@@ -10,7 +10,7 @@ has-words-requires c κs = search needs
 
 stack-word-requires : tie.Need-stack-word-requires
 stack-word-requires c κs =
-    let f = words-there (c .before .before .before .before .before .args .m) _ 1 _ (c .before .before .before .before .before .pre .0) (c .before .before .before .before .before .pre .1) (c .before .has-words .ensures) (c .if1 .taken) in (f .runs, f .low, omega (arith, f .words, f .high), c .before .before .before .before .before .pre .2)
+    let f = words-there _ 1 _ (c .before .before .before .before .before .pre .0) (c .before .has-words .ensures) (c .if1 .taken) in (f .runs, f .low, omega (arith, f .words, f .high), c .before .before .before .before .before .pre .1)
 
 stops-requires : tie.Need-stops-requires
 stops-requires c κs = search needs
@@ -23,15 +23,15 @@ stops-requires-3 c κs = search needs
 
 returns : tie.Need-returns
 returns c =
-    λ k. let e = has-words (c .before .before .before .before .before .before .before .before .args .m) _ 1 _ _ (c .before .before .before .before .before .before .before .before .pre .1) (c .before .before .before .before .has-words .ensures) (c .before .before .before .if1 .taken) in let w = rw (c .before .before .before .before .before .before .before .before .pre .1) at (c .before .before .stack-word .ensures) in rw (c .stops .ensures, w) (call2-stops (c .before .before .before .before .before .before .before .before .args .m) k _ e (rw (← w) (le-leb _ _ (c .before .if2 .taken))))
+    λ m t k. let e = has-words m _ 1 _ _ (t .caller) (c .before .before .before .before .has-words .ensures) (c .before .before .before .if1 .taken) in let w = rw (t .caller) at (c .before .before .stack-word .ensures) in rw (c .stops .ensures, t .caller, same-process m, w) (call2-stops m k _ e (rw (← w) (le-leb _ _ (c .before .if2 .taken))))
 
 returns-2 : tie.Need-returns-2
 returns-2 c =
-    λ k. let e = has-words (c .before .before .before .before .before .before .before .before .args .m) _ 1 _ _ (c .before .before .before .before .before .before .before .before .pre .1) (c .before .before .before .before .has-words .ensures) (c .before .before .before .if1 .taken) in let w = rw (c .before .before .before .before .before .before .before .before .pre .1) at (c .before .before .stack-word .ensures) in rw (c .stops2 .ensures) (call2-other (c .before .before .before .before .before .before .before .before .args .m) k _ e (rw (← w) (lt-leb _ _ (c .before .if2 .left))))
+    λ m t k. let e = has-words m _ 1 _ _ (t .caller) (c .before .before .before .before .has-words .ensures) (c .before .before .before .if1 .taken) in let w = rw (t .caller) at (c .before .before .stack-word .ensures) in rw (c .stops2 .ensures, t .caller, same-process m) (call2-other m k _ e (rw (← w) (lt-leb _ _ (c .before .if2 .left))))
 
 returns-3 : tie.Need-returns-3
 returns-3 c =
-    λ k. let e = has-words (c .before .before .before .before .before .before .args .m) _ 1 _ _ (c .before .before .before .before .before .before .pre .1) (c .before .before .has-words .ensures) (c .before .if1 .left) in rw (c .stops3 .ensures) (call2-few (c .before .before .before .before .before .before .args .m) k _ e)
+    λ m t k. let e = has-words m _ 1 _ _ (t .caller) (c .before .before .has-words .ensures) (c .before .if1 .left) in rw (c .stops3 .ensures, t .caller, same-process m) (call2-few m k _ e)
 
 pub call2-spec : {M : Type 1} → statement M
 call2-spec =

@@ -1,7 +1,7 @@
 use borrow.Author.Needs.{needs}
 use Rattle.machine.specs.Gate.{mayContinue}
-use Rattle.machine.proofs.Machine.may_continue.Statement.{statement}
-use Rattle.machine.proofs.Machine.may_continue.Tie as tie
+use Rattle.machine.proofs.Process.may_continue.Statement.{statement}
+use Rattle.machine.proofs.Process.may_continue.Tie as tie
 
 may-leave-requires : tie.Need-may-leave-requires
 may-leave-requires c κs = search needs
@@ -9,7 +9,7 @@ may-leave-requires c κs = search needs
 returns : tie.Need-returns
 unfolding mayContinue
 returns c =
-    rw (c .may-leave .ensures)
+    λ m p n. rw (c .may-leave .ensures m p n)
 
 pub may-continue-spec : {M : Type 1} → statement M
 may-continue-spec = tie.close (tie.spec may-leave-requires returns)

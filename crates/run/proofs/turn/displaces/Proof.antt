@@ -1,0 +1,18 @@
+use mathlib.Core.Path.{refl}
+use Rattle.machine.proofs.Laws.{over-all}
+use borrow.Author.Needs.{needs}
+use Rattle.run.proofs.turn.displaces.Statement.{statement}
+use Rattle.run.proofs.turn.displaces.Tie as tie
+
+is-stopped-requires : tie.Need-is-stopped-requires
+is-stopped-requires c κs = search needs
+
+is-better-ready-requires : tie.Need-is-better-ready-requires
+is-better-ready-requires c κs = search needs
+
+returns : tie.Need-returns
+returns c =
+    λ m r k. rw (c .before .is-stopped .ensures, c .is-better-ready .ensures m r, over-all m _ refl _ k)
+
+pub displaces-spec : {M : Type 1} → statement M
+displaces-spec = tie.close (tie.spec is-stopped-requires is-better-ready-requires returns)
