@@ -2,7 +2,7 @@
 use mathlib.Core.Path.{_≡_, refl, sym, ap}
 use mathlib.Core.Bool.{Bool, true, false, _&&_}
 use mathlib.Core.List.{List}
-use Prim.Native.Nat.{ℕ, suc, _+_, _-_, _≤_, _<_}
+use Prim.Native.Nat.{ℕ, zero, suc, _+_, _-_, _≤_, _<_}
 use native.Mathlib.Omega.{arith}
 use lib.Dec.{leb, ltb}
 use lib.ListN.{length, getD, set, List·getD-eq-default}
@@ -11,10 +11,12 @@ use borrow.Author.Tests.{ltb-true, lt-ltb, le-ltb, le-leb, lt-leb, eq-eqb, ne-eq
 use borrow.Author.Needs.{needs}
 use Rattle.notation.specs.If.{if}
 use Rattle.notation.proofs.Upto.{both, below?}
+use Rattle.machine.specs.declared.Process.{Process}
 use Rattle.machine.specs.declared.Machine.{Machine}
-use Rattle.machine.specs.State.{nobody, proc}
-use Rattle.machine.specs.Classes.{best, selects}
-use Rattle.machine.specs.Clock.{clockOne, clockWake, bellOne, bellWake}
+use Rattle.machine.specs.declared.clock.Waking.{Waking}
+use Rattle.machine.specs.State.{nobody, parts, proc}
+use Rattle.machine.specs.Classes.{best, push, selects, wake}
+use Rattle.machine.specs.Clock.{clockOne, clockWake, bellOne, bellWake, oneWoken, woken}
 
 -- each test on the way, as the definitions have it
 pub ruleset cases = (needs, lt-ltb, le-ltb, le-leb, lt-leb, eq-eqb, ne-eqb)
@@ -37,22 +39,31 @@ reached a b d l = le-leb (a + d) (b + d) (omega (arith, l))
 pub not-reached : (a b d : ℕ) → b < a → leb (a + d) (b + d) ≡ false
 not-reached a b d l = lt-leb (a + d) (b + d) (omega (arith, l))
 
--- ---- the waiters wake one by one: those of the clock, those of the bell
-pub clock-next : (n i : ℕ) (m : Machine) → i < n → clockWake (n - i) m ≡ clockWake (n - (i + 1)) (clockOne m)
-unfolding clockWake
-clock-next n i m l = let e : n - i ≡ suc (n - (i + 1)) = omega (arith, l) in rw e
+-- ---- the waiters wake one by one; those of the clock and those of the bell do so on the two parts that change
+module _ (n i : ℕ) (ps : List Process) (w : Waking) where
+  pub woken-next : i < n → woken (n - i) ps w ≡ woken (n - (i + 1)) ps (oneWoken ps w)
+  unfolding woken
+  woken-next l = let e : n - i ≡ suc (n - (i + 1)) = omega (arith, l) in rw e
 
-pub clock-over : (n i : ℕ) (m : Machine) → n ≤ i → clockWake (n - i) m ≡ m
-unfolding clockWake
-clock-over n i m l = let e : n - i ≡ 0 = omega (arith, l) in rw e
+  pub woken-over : n ≤ i → woken (n - i) ps w ≡ w
+  unfolding woken
+  woken-over l = let e : n - i ≡ 0 = omega (arith, l) in rw e
 
-pub bell-next : (n i : ℕ) (m : Machine) → i < n → bellWake (n - i) m ≡ bellWake (n - (i + 1)) (bellOne m)
-unfolding bellWake
-bell-next n i m l = let e : n - i ≡ suc (n - (i + 1)) = omega (arith, l) in rw e
+abbrev clockWith : Machine → Waking → Machine
+clockWith m w = parts m (m .processes) (m .gates) (w .ready) (w .waiters) (m .bell) (m .devices) (m .running) (m .created) (m .made)
 
-pub bell-over : (n i : ℕ) (m : Machine) → n ≤ i → bellWake (n - i) m ≡ m
-unfolding bellWake
-bell-over n i m l = let e : n - i ≡ 0 = omega (arith, l) in rw e
+abbrev bellWith : Machine → Waking → Machine
+bellWith m w = parts m (m .processes) (m .gates) (w .ready) (m .clock) (w .waiters) (m .devices) (m .running) (m .created) (m .made)
+
+pub clock-woken : (n : ℕ) (m : Machine) (w : Waking) → clockWake n (clockWith m w) ≡ clockWith m (woken n (m .processes) w)
+unfolding clockWake clockOne wake push woken oneWoken
+clock-woken zero m w = refl
+clock-woken (suc n) m w = clock-woken n m (oneWoken (m .processes) w)
+
+pub bell-woken : (n : ℕ) (m : Machine) (w : Waking) → bellWake n (bellWith m w) ≡ bellWith m (woken n (m .processes) w)
+unfolding bellWake bellOne wake push woken oneWoken
+bell-woken zero m w = refl
+bell-woken (suc n) m w = bell-woken n m (oneWoken (m .processes) w)
 
 -- ---- the selection over nobody, and over the process that runs; it takes a process of a class that is ready
 twice : (b : Bool) → (b && b) ≡ b

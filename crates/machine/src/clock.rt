@@ -2,9 +2,10 @@
 ghost use mathlib.Core.Path.{_≡_};
 ghost use Prim.Native.Nat.{_<_};
 ghost use Rattle.machine.specs.State.{proc, timed};
-ghost use Rattle.machine.specs.Clock.{clockWait, bellWait, clockOne, clockWake, bellOne, bellWake, nextSecond, timePasses, fallen, sliced, yields, slicePasses, tick, bell};
+ghost use Rattle.machine.specs.Clock.{clockWait, bellWait, woken, clockWake, bellWake, nextSecond, timePasses, fallen, sliced, yields, slicePasses, tick, bell};
 use crate::Machine;
 use crate::Process;
+use crate::Queue;
 use crate::classes::best_of;
 
 impl Process {
@@ -31,6 +32,34 @@ fn next_second(s: u16) -> u16
     if s < 32767 { s + 1 } else { 0 }
 }
 
+// The ready queues, and who still waits.
+struct Waking {
+    ready: [Queue; 3],
+    waiters: Queue,
+}
+
+// All waiters wake, in order. On parts of the machine: handed on by value, all of it would be copied for each.
+fn woken(processes: [Process; 10], mut ready: [Queue; 3], mut waiters: Queue) -> Waking
+    ensures { λ r. ⌜ r ≡ woken (waiters .len) processes (record { ready = ready; waiters = waiters }) ⌝ }
+{
+    let n = waiters.len;
+    for i in 0..n {
+        let h = waiters.at[0];
+        waiters = waiters.rest();
+        let mut c: u8 = 0;
+        if h < 10 {
+            let p = processes[h as usize];
+            c = p.class;
+        }
+        if c < 3 {
+            let q = ready[c as usize];
+            let more = q.pushed(h);
+            ready[c as usize] = more;
+        }
+    }
+    Waking { ready, waiters }
+}
+
 impl Machine {
     // The running process waits for the next second.
     pub fn clock_wait(mut self) -> Machine
@@ -54,46 +83,33 @@ impl Machine {
         self
     }
 
-    // The first waiter wakes.
-    fn clock_one(mut self) -> Machine
-        ensures { λ r. ⌜ r ≡ clockOne self ⌝ }
+    // All who wait for the clock wake, in order.
+    fn clock_wake(mut self) -> Machine
+        ensures { λ r. ⌜ r ≡ clockWake (self .clock .len) self ⌝ }
     {
-        let q = self.clock;
-        let h = q.at[0];
-        let less = q.rest();
-        self.clock = less;
-        self.wake(h)
+        let processes = self.processes;
+        let ready = self.ready;
+        let waiters = self.clock;
+        let x = woken(processes, ready, waiters);
+        let now = x.ready;
+        let rest = x.waiters;
+        self.ready = now;
+        self.clock = rest;
+        self
     }
 
-    fn bell_one(mut self) -> Machine
-        ensures { λ r. ⌜ r ≡ bellOne self ⌝ }
+    fn bell_wake(mut self) -> Machine
+        ensures { λ r. ⌜ r ≡ bellWake (self .bell .len) self ⌝ }
     {
-        let q = self.bell;
-        let h = q.at[0];
-        let less = q.rest();
-        self.bell = less;
-        self.wake(h)
-    }
-
-    // The first n wake, in order.
-    fn clock_wake(self, n: u8) -> Machine
-        ensures { λ r. ⌜ r ≡ clockWake n self ⌝ }
-    {
-        let mut m = self;
-        for i in 0..n {
-            m = m.clock_one();
-        }
-        m
-    }
-
-    fn bell_wake(self, n: u8) -> Machine
-        ensures { λ r. ⌜ r ≡ bellWake n self ⌝ }
-    {
-        let mut m = self;
-        for i in 0..n {
-            m = m.bell_one();
-        }
-        m
+        let processes = self.processes;
+        let ready = self.ready;
+        let waiters = self.bell;
+        let x = woken(processes, ready, waiters);
+        let now = x.ready;
+        let rest = x.waiters;
+        self.ready = now;
+        self.bell = rest;
+        self
     }
 
     fn timed(mut self, seconds: u16, fraction: u16) -> Machine
@@ -111,9 +127,8 @@ impl Machine {
         let fraction = self.fraction;
         let seconds = self.seconds;
         if 9990 <= fraction {
-            let q = self.clock;
             let next = next_second(seconds);
-            self.timed(next, 0).clock_wake(q.len)
+            self.timed(next, 0).clock_wake()
         } else {
             self.timed(seconds, fraction + 10)
         }
@@ -167,7 +182,6 @@ impl Machine {
     pub fn ring(self) -> Machine
         ensures { λ r. ⌜ r ≡ bell self ⌝ }
     {
-        let q = self.bell;
-        self.bell_wake(q.len).select()
+        self.bell_wake().select()
     }
 }

@@ -1,38 +1,16 @@
--- The invariant: as many are still to wake as the loop has still to go.
-use mathlib.Core.Path.{_≡_, sym, ap, _∙_}
-use Prim.Native.Nat.{ℕ, _-_, _≤_}
-use native.Mathlib.Omega.{arith}
+use mathlib.Core.Path.{sym}
 use borrow.Author.Needs.{needs}
-use Rattle.machine.specs.Clock.{clockWake}
-use Rattle.machine.proofs.Laws.{clock-next, clock-over}
+use Rattle.machine.proofs.Laws.{clock-woken}
 use Rattle.machine.proofs.Machine.clock_wake.Statement.{statement}
 use Rattle.machine.proofs.Machine.clock_wake.Tie as tie
 
-abbrev Inv-loop : tie.InvT-loop
-Inv-loop n m₀ i₀ m i = (i ≤ n) × (clockWake n m₀ ≡ clockWake (n - i) m)
+woken-requires : tie.Need-woken-requires
+woken-requires c κs = search needs
 
-abbrev μ-loop : tie.MeasureT-loop
-μ-loop n m₀ i₀ m i = n - i
-
-loop-holds : tie.Need-loop-holds Inv-loop μ-loop
-loop-holds c = (omega arith, ap (λ (k : ℕ). clockWake k (c .args .self)) (omega arith))
-
-clock-one-requires : tie.Need-clock-one-requires Inv-loop μ-loop
-clock-one-requires c κs = search needs
-
-add-i : tie.Need-add-i Inv-loop μ-loop
-add-i c = omega arith
-
-loop-less : tie.Need-loop-less Inv-loop μ-loop
-loop-less c = omega arith
-
-loop-again : tie.Need-loop-again Inv-loop μ-loop
-loop-again c = (omega arith, c .before .before .loop .inv .1 ∙ rw (c .clock-one .ensures) (clock-next _ _ _ (c .before .loop-test .taken)))
-
-returns : tie.Need-returns Inv-loop μ-loop
-returns c = sym (c .before .loop .inv .1 ∙ clock-over _ _ _ (c .loop-test .left))
+returns : tie.Need-returns
+returns c =
+    let m = c .before .before .before .before .before .before .args .self in
+    rw (c .before .before .woken .ensures) (sym (clock-woken (m .clock .len) m (record { ready = m .ready; waiters = m .clock })))
 
 pub clock-wake-spec : {M : Type 1} → statement M
-clock-wake-spec =
-    tie.close
-    (tie.spec Inv-loop μ-loop loop-holds clock-one-requires add-i loop-less loop-again returns)
+clock-wake-spec = tie.close (tie.spec woken-requires returns)

@@ -23,7 +23,7 @@ timed-requires-2 c κs = search needs
 returns : tie.Need-returns
 unfolding timePasses
 returns c =
-    rw (c .clock-wake .ensures, c .before .timed .ensures, c .before .before .next-second .ensures, reached 9990 _ 10 (c .before .before .before .before .if1 .taken))
+    rw (c .clock-wake .ensures, c .before .timed .ensures, c .before .before .next-second .ensures, reached 9990 _ 10 (c .before .before .before .if1 .taken))
 
 returns-2 : tie.Need-returns-2
 unfolding timePasses
