@@ -10,13 +10,14 @@ use lib.Seq.{set-out}
 use borrow.Author.Tests.{ltb-true, lt-ltb, le-ltb, le-leb, lt-leb, eq-eqb, ne-eqb}
 use borrow.Author.Needs.{needs}
 use Rattle.notation.specs.If.{if}
-use Rattle.notation.proofs.Upto.{both, below?}
+use Rattle.notation.proofs.Upto.{both, below?, never}
 use Rattle.machine.specs.declared.Process.{Process}
 use Rattle.machine.specs.declared.Machine.{Machine}
 use Rattle.machine.specs.declared.clock.Waking.{Waking}
-use Rattle.machine.specs.State.{nobody, parts, proc}
+use Rattle.machine.specs.State.{nobody, parts, proc, withProcess}
 use Rattle.machine.specs.Classes.{best, push, selects, wake}
-use Rattle.machine.specs.Clock.{clockOne, clockWake, bellOne, bellWake, oneWoken, woken}
+use Rattle.machine.specs.Clock.{clockOne, clockWake, bellOne, bellWake, slicePasses, yields}
+use Rattle.machine.specs.Parts.{aged, oneWoken, woken}
 
 -- each test on the way, as the definitions have it
 pub ruleset cases = (needs, lt-ltb, le-ltb, le-leb, lt-leb, eq-eqb, ne-eqb)
@@ -38,6 +39,26 @@ reached a b d l = le-leb (a + d) (b + d) (omega (arith, l))
 
 pub not-reached : (a b d : ℕ) → b < a → leb (a + d) (b + d) ≡ false
 not-reached a b d l = lt-leb (a + d) (b + d) (omega (arith, l))
+
+-- a test of two parts, where both hold and where one does not
+module _ {A : Type 0} (x y : A) where
+  pub both-hold : (a b : Bool) → a && b ≡ true → x ≡ if a (if b x y) y
+  both-hold true true e = refl
+  both-hold true false e = never (sym e)
+  both-hold false b e = never (sym e)
+
+  pub one-fails : (a b : Bool) → a && b ≡ false → y ≡ if a (if b x y) y
+  one-fails true true e = never e
+  one-fails true false e = refl
+  one-fails false b e = refl
+
+-- ---- the slice: the process's record changes, and then, at its end, the process may have to yield
+pub slice-over : (m : Machine) (h : ℕ) → if (leb 190 ((proc m h) .slice)) (yields (withProcess m h (aged (proc m h))) h) (withProcess m h (aged (proc m h))) ≡ slicePasses m h
+unfolding slicePasses
+slice-over m h =
+    below? ((proc m h) .slice) 190
+    (λ l. rw (lt-leb _ _ l, not-reached 190 _ 10 l))
+    (λ l. rw (le-leb _ _ l, reached 190 _ 10 l))
 
 -- ---- the waiters wake one by one; those of the clock and those of the bell do so on the two parts that change
 module _ (n i : ℕ) (ps : List Process) (w : Waking) where
@@ -85,6 +106,14 @@ module _ (m : Machine) (b : ℕ) (e : b ≡ best m) where
       below? (m .running) 10
       (λ l. rw f (rw (lt-ltb (m .running) 10 l) (over-running l)))
       (λ l. rw f (rw (le-ltb (m .running) 10 l) (over-nobody l)))
+
+  -- told by its number and its class
+  pub over-told : (i k c : ℕ) → m .running ≡ i → (i < 10 → (proc m i) .class ≡ k) → c ≡ if (ltb i 10) k 3 → (ltb b c && ltb b 3) ≡ selects m
+  over-told i k c r own f =
+      over-all c
+      (below? i 10
+      (λ l. rw (f, r, lt-ltb i 10 l, own l))
+      (λ l. rw (f, r, le-ltb i 10 l)))
 
 pub is-ready : (b c : ℕ) → (ltb b c && ltb b 3) ≡ true → b < 3
 is-ready b c e = ltb-true b 3 (both (ltb b c) (ltb b 3) e .1)

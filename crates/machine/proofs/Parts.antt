@@ -1,11 +1,11 @@
 -- A gate given up and a cell of it changed, a child made and placed, in either order; the stop of a job; and what changes where
 -- there is no such process or gate
-use mathlib.Core.Path.{_≡_}
+use mathlib.Core.Path.{_≡_, _∙_, ap, refl, sym}
 use mathlib.Core.Bool.{true, false, _&&_, _||_, not}
 use Prim.Native.Nat.{ℕ, _≤_, _<_}
 use native.Mathlib.Omega.{arith}
-use lib.Dec.{eqb, ltb}
-use lib.ListN.{length, set}
+use lib.Dec.{eqb, leb, ltb}
+use lib.ListN.{getD, getD-replicate, length, length-replicate, length-set, replicate, set}
 use lib.Seq.{getD-set-same, set-set}
 use borrow.Author.Tests.{ltb-true, ltb-false, lt-ltb, le-ltb, lt-leb, le-leb}
 use Rattle.notation.specs.If.{if}
@@ -13,10 +13,12 @@ use Rattle.notation.proofs.Upto.{split, both, below?}
 use Rattle.machine.specs.declared.Gate.{Gate}
 use Rattle.machine.specs.declared.Process.{Process}
 use Rattle.machine.specs.declared.Machine.{Machine}
+use Rattle.machine.specs.declared.gates.Handed.{Handed}
 use Rattle.machine.specs.State.{nobody, noGate, noProcess, gate, proc, started, withProcess}
 use Rattle.machine.specs.Classes.{push, setRunning, someReady, wake}
-use Rattle.machine.specs.Queue.{first, rest}
-use Rattle.machine.specs.Gate.{advance, given, giveUp, handOn, pass, sit, withGate}
+use Rattle.machine.specs.Queue.{rest}
+use Rattle.machine.specs.Gate.{advance, cell, giveUp, grant, handOn, pass, sit}
+use Rattle.machine.specs.Parts.{handedOn, handOver, lostGate, resumed}
 use Rattle.machine.specs.Call.{born, placeChild, stopAnswer, stopJob}
 use Rattle.machine.proofs.Laws.{get-past, set-past}
 
@@ -45,25 +47,86 @@ module _ (m : Machine) (g c x i : ℕ) (long : length (m .gates) ≡ 25) where
       below? g 25 empties-first
       (λ l. rw (set-past (m .gates) 25 g long l (seated m g c x), set-past (m .gates) 25 g long l (opened m g), set-past (m .gates) 25 g long l (seated m g c x)))
 
-  pub nowhere-to-sit : 25 ≤ g → sit (giveUp m g i) g c x ≡ giveUp m g i
-  unfolding giveUp sit
-  nowhere-to-sit l = rw (set-past (m .gates) 25 g long l (opened m g), set-past (m .gates) 25 g long l _)
+-- ---- a gate given up: it is written once, as it was handed on
+-- the gate given up, without its first waiter
+abbrev advanced : Machine → ℕ → Gate
+advanced m g = record { holder = nobody; queue = rest ((gate m g) .queue); cells = (gate m g) .cells }
 
--- a gate given up and handed on, its holder and its waiters written at once
+-- with an empty cell
+abbrev emptied : Machine → ℕ → ℕ → Gate
+emptied m g c = record { holder = nobody; queue = (gate m g) .queue; cells = set ((gate m g) .cells) c nobody }
+
+-- process 0 sits in each cell of a gate that is not there
+lost-cell : (c : ℕ) → getD (lostGate .cells) c 0 ≡ 0
+lost-cell c = below? c 8 (λ l. getD-replicate 8 c 0 0 l) (λ l. get-past (replicate 8 0) 8 c (length-replicate {A = ℕ} 8 0) l 0)
+
 module _ (m : Machine) (g i : ℕ) (long : length (m .gates) ≡ 25) where
-  pub released-nowhere : 25 ≤ g → withProcess m i (given (proc m i)) ≡ handOn (giveUp m g i) g
-  unfolding giveUp handOn withProcess
-  released-nowhere l = rw (set-past (m .gates) 25 g long l (opened m g), get-past (m .gates) 25 g long l noGate)
+  hands-on : g < 25 → handOver m g i (handedOn (gate m g)) ≡ handOn (giveUp m g i) g
+  unfolding handOver handedOn giveUp handOn advance withProcess pass grant
+  hands-on l =
+      let within : g < length (m .gates) = omega (arith, long, l) in
+      let same = getD-set-same (m .gates) g (opened m g) noGate within in
+      split (eqb ((gate m g) .queue .len) 0)
+      (λ e. rw (same, e))
+      (λ e. rw (same, e, set-set (m .gates) g (opened m g) (advanced m g), getD-set-same (m .gates) g (advanced m g) noGate within, set-set (m .gates) g (advanced m g) _))
 
-  pub released-open : g < 25 → eqb ((gate m g) .queue .len) 0 ≡ true → giveUp m g i ≡ handOn (giveUp m g i) g
-  unfolding giveUp handOn
-  released-open l e = rw (getD-set-same (m .gates) g (opened m g) noGate (omega (arith, long, l)), e)
+  hands-nothing : 25 ≤ g → (w : Gate) → w .queue .len ≡ 0 → handOver m g i (handedOn w) ≡ handOn (giveUp m g i) g
+  unfolding handOver handedOn giveUp handOn
+  hands-nothing l w e =
+      rw (e, set-past (m .gates) 25 g long l (opened m g), get-past (m .gates) 25 g long l noGate, set-past (m .gates) 25 g long l _)
 
-  pub released-on : g < 25 → eqb ((gate m g) .queue .len) 0 ≡ false
-      → pass (withGate (withProcess m i (given (proc m i))) g nobody (rest ((gate m g) .queue)) ((gate m g) .cells)) g (first ((gate m g) .queue)) ≡ handOn (giveUp m g i) g
-  unfolding giveUp handOn advance withProcess
-  released-on l e =
-      rw (getD-set-same (m .gates) g (opened m g) noGate (omega (arith, long, l)), e, set-set (m .gates) g (opened m g) (record { holder = nobody; queue = rest ((gate m g) .queue); cells = (gate m g) .cells }))
+  -- of the gate that stands there, or of none
+  pub given-up : (w : Gate) → w ≡ if (ltb g 25) (gate m g) lostGate → handOver m g i (handedOn w) ≡ handOn (giveUp m g i) g
+  given-up w e =
+      below? g 25
+      (λ l. rw (e, lt-ltb g 25 l) (hands-on l))
+      (λ l. rw (e, le-ltb g 25 l) (hands-nothing l lostGate refl))
+
+  pub continued : (c : ℕ) (w : Gate) → w ≡ if (ltb g 25) (gate m g) lostGate
+      → handOver m g i (resumed w c) ≡ if (leb nobody (cell m g c)) (handOn (giveUp m g i) g) (pass (sit (giveUp m g i) g c nobody) g (cell m g c))
+  unfolding handOver resumed giveUp sit withProcess pass grant
+  continued c w e =
+      below? g 25
+      (λ l.
+      let within : g < length (m .gates) = omega (arith, long, l) in
+      rw (e, lt-ltb g 25 l)
+      (split (leb nobody (cell m g c))
+      (λ f. rw f (hands-on l))
+      (λ f. rw (f, getD-set-same (m .gates) g (opened m g) noGate within, set-set (m .gates) g (opened m g) (emptied m g c), getD-set-same (m .gates) g (emptied m g c) noGate within, set-set (m .gates) g (emptied m g c) _))))
+      (λ l.
+      rw (
+        e,
+        le-ltb g 25 l,
+        lost-cell c,
+        set-past (m .gates) 25 g long l (opened m g),
+        get-past (m .gates) 25 g long l noGate,
+        set-past (m .gates) 25 g long l _,
+        set-past (m .gates) 25 g long l _,
+        set-past (m .gates) 25 g long l _,
+      ))
+
+-- a gate that is given up by who sits down in it
+module _ (m : Machine) (g c i : ℕ) (long : length (m .gates) ≡ 25) where
+  sits-under : (x : Handed) → handOver (sit m g c i) g i x ≡ handOver m g i x
+  unfolding handOver sit
+  sits-under x = rw (set-set (m .gates) g (seated m g c i) (x .gate))
+
+  still : length ((sit m g c i) .gates) ≡ 25
+  unfolding sit
+  still = length-set (m .gates) g (seated m g c i) ∙ long
+
+  delays-on : g < 25 → handOver m g i (handedOn (seated m g c i)) ≡ handOn (sit (giveUp m g i) g c i) g
+  unfolding sit
+  delays-on l =
+      let k = getD-set-same (m .gates) g (seated m g c i) noGate (omega (arith, long, l)) in
+      sym (sits-under (handedOn (seated m g c i))) ∙ (rw k at (hands-on (sit m g c i) g i still l) ∙ ap (λ (n : Machine). handOn n g) (seated-first m g c i i long))
+
+  pub delayed : (w : Gate) → w ≡ if (ltb g 25) (gate m g) lostGate
+      → handOver m g i (handedOn (record { holder = w .holder; queue = w .queue; cells = set (w .cells) c i })) ≡ handOn (sit (giveUp m g i) g c i) g
+  delayed w e =
+      below? g 25
+      (λ l. rw (e, lt-ltb g 25 l) (delays-on l))
+      (λ l. rw (e, le-ltb g 25 l) (sym (sits-under _) ∙ (hands-nothing (sit m g c i) g i still l _ refl ∙ ap (λ (n : Machine). handOn n g) (seated-first m g c i i long))))
 
 -- the class of a child that is made: it starts in class 2, and of an eleventh there is no record
 module _ (m : Machine) (t v : ℕ) (long : length (m .processes) ≡ 10) where

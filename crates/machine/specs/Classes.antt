@@ -1,11 +1,13 @@
 -- Ready processes by their classes, and the selection
 use Prim.Native.Nat.{ℕ}
 use lib.Dec.{ltb, leb, eqb}
-use lib.ListN.{set}
+use lib.ListN.{getD, set}
 use Rattle.notation.specs.If.{if}
 use mathlib.Core.Bool.{Bool, _||_, _&&_}
+use mathlib.Core.List.{List}
+use Rattle.machine.specs.declared.Queue.{Queue}
 use Rattle.machine.specs.declared.Machine.{Machine}
-use Rattle.machine.specs.State.{nobody, proc, ready, with, withProcess, withClass}
+use Rattle.machine.specs.State.{nobody, noQueue, proc, ready, with, withProcess, withClass}
 use Rattle.machine.specs.Queue.{first, pushed, rest}
 
 -- h runs, or nobody does
@@ -13,8 +15,11 @@ unfoldable pub setRunning : Machine → ℕ → Machine
 setRunning m h = with m (m .processes) (m .gates) (m .ready) h
 
 -- h joins the tail of class c; the head of class c is taken off
+abbrev pub joined : List Queue → ℕ → ℕ → List Queue
+joined qs c h = set qs c (pushed (getD qs c noQueue) h)
+
 unfoldable pub push : Machine → ℕ → ℕ → Machine
-push m c h = with m (m .processes) (m .gates) (set (m .ready) c (pushed (ready m c) h)) (m .running)
+push m c h = with m (m .processes) (m .gates) (joined (m .ready) c h) (m .running)
 
 unfoldable pub pull : Machine → ℕ → Machine
 pull m c = with m (m .processes) (m .gates) (set (m .ready) c (rest (ready m c))) (m .running)

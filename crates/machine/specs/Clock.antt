@@ -1,13 +1,10 @@
 -- The clock and the bell: who waits for them, and how they wake
-use mathlib.Core.List.{List}
 use Prim.Native.Nat.{ℕ, zero, suc, _+_}
 use lib.Dec.{leb, ltb, eqb}
-use lib.ListN.{getD, set}
 use Rattle.notation.specs.If.{if}
 use Rattle.machine.specs.declared.Process.{Process}
 use Rattle.machine.specs.declared.Machine.{Machine}
-use Rattle.machine.specs.declared.clock.Waking.{Waking}
-use Rattle.machine.specs.State.{nobody, noProcess, noQueue, proc, timed, withWaits, withProcess, changed}
+use Rattle.machine.specs.State.{nobody, proc, timed, withWaits, withProcess, changed}
 use Rattle.machine.specs.Queue.{first, pushed, rest}
 use Rattle.machine.specs.Classes.{setRunning, wake, best, select}
 
@@ -32,17 +29,6 @@ bellOne m = wake (withWaits m (m .clock) (rest (m .bell)) (m .devices)) (first (
 unfoldable pub bellWake : ℕ → Machine → Machine
 bellWake zero m = m
 bellWake (suc k) m = bellWake k (bellOne m)
-
--- the same on the two parts that it changes: the ready queues, and who still waits
-unfoldable pub oneWoken : List Process → Waking → Waking
-oneWoken ps w =
-    let h : ℕ = first (w .waiters) in
-    let c : ℕ = (getD ps h noProcess) .class in
-    record { ready = set (w .ready) c (pushed (getD (w .ready) c noQueue) h); waiters = rest (w .waiters) }
-
-unfoldable pub woken : ℕ → List Process → Waking → Waking
-woken zero ps w = w
-woken (suc k) ps w = woken k ps (oneWoken ps w)
 
 -- "At 10,000 the fraction returns to 0, seconds grow (32,767 goes to 0), and all waiting for the clock wake in order"
 abbrev pub nextSecond : ℕ → ℕ

@@ -15,3 +15,4 @@ pub mod Sound
 pub mod Offer
 pub mod Load
 pub mod Release
+pub mod Parts

@@ -3,14 +3,81 @@ ghost use mathlib.Core.Path.{_≡_};
 ghost use mathlib.Core.Bool.{_&&_};
 ghost use Prim.Native.Nat.{_<_};
 ghost use lib.Dec.{ltb};
-ghost use lib.ListN.{getD};
+ghost use lib.ListN.{getD, set};
 ghost use Rattle.notation.specs.If.{if};
 ghost use Rattle.machine.specs.declared.Machine.{Machine};
-ghost use Rattle.machine.specs.State.{noProcess};
-ghost use Rattle.machine.specs.Classes.{setRunning, push, wake, best, start, select};
+ghost use Rattle.machine.specs.State.{noProcess, noQueue, proc, with};
+ghost use Rattle.machine.specs.Queue.{first, rest};
+ghost use Rattle.machine.specs.Classes.{setRunning, joined, push, wake, best, select};
 use crate::Machine;
 use crate::Process;
 use crate::Queue;
+
+// ---- the ready queues alone: they are 33 bytes, and where they are indexed no machine is copied
+// h joins the tail of class c.
+pub(crate) fn joined(mut ready: [Queue; 3], c: u8, h: u8) -> [Queue; 3]
+    ensures { λ r. ⌜ r ≡ joined ready c h ⌝ }
+{
+    if c < 3 {
+        let q = ready[c as usize];
+        let more = q.pushed(h);
+        ready[c as usize] = more;
+    }
+    ready
+}
+
+// The ready queues, and who runs.
+pub struct Selection {
+    pub ready: [Queue; 3],
+    pub running: u8,
+}
+
+// The head of class c runs.
+fn headed(mut ready: [Queue; 3], c: u8) -> Selection
+    requires { ⌜ c < 3 ⌝ }
+    ensures { λ r. ⌜ r ≡ record { ready = set ready c (rest (getD ready c noQueue)); running = first (getD ready c noQueue) } ⌝ }
+{
+    let q = ready[c as usize];
+    let h = q.at[0];
+    let less = q.rest();
+    ready[c as usize] = less;
+    Selection { ready, running: h }
+}
+
+// What a ready class is compared with, where process i runs, of this class: 3 is nobody's.
+fn class_over(i: u8, class: u8) -> u8
+    ensures { λ r. ⌜ r ≡ if (ltb i 10) class 3 ⌝ }
+{
+    if i < 10 { class } else { 3 }
+}
+
+// What the selection makes of them where process i runs, of this class; where nobody runs, the class says nothing.
+pub fn selected(ready: [Queue; 3], i: u8, class: u8) -> Selection
+    ensures { λ r. ⌜ ((m : Machine) → m .ready ≡ ready → m .running ≡ i → (i < 10 → (proc m i) .class ≡ class) → with m (m .processes) (m .gates) (r .ready) (r .running) ≡ select m) ⌝ }
+{
+    let over = class_over(i, class);
+    let best = best_of(ready);
+    let now = displaces(best, over);
+    if !now {
+        return Selection { ready, running: i };
+    }
+    if 10 <= i {
+        return headed(ready, best);
+    }
+    headed(joined(ready, class, i), best)
+}
+
+// The class of process i; one that is not there has class 0.
+pub(crate) fn class_of(processes: [Process; 10], i: u8) -> u8
+    ensures { λ r. ⌜ r ≡ (getD processes i noProcess) .class ⌝ }
+{
+    if i < 10 {
+        let p = processes[i as usize];
+        p.class
+    } else {
+        0
+    }
+}
 
 impl Machine {
     // h runs, or nobody does.
@@ -25,68 +92,37 @@ impl Machine {
     pub(crate) fn push(mut self, c: u8, h: u8) -> Machine
         ensures { λ r. ⌜ r ≡ push self c h ⌝ }
     {
-        if c < 3 {
-            let q = self.ready[c as usize];
-            let more = q.pushed(h);
-            self.ready[c as usize] = more;
-        }
+        let ready = self.ready;
+        let more = joined(ready, c, h);
+        self.ready = more;
         self
     }
 
     // Woken processes and new holders join the tail of their class.
-    pub(crate) fn wake(self, h: u8) -> Machine
+    pub(crate) fn wake(mut self, h: u8) -> Machine
         ensures { λ r. ⌜ r ≡ wake self h ⌝ }
     {
-        if 10 <= h {
-            return self.push(0, h);
-        }
-        let p = self.processes[h as usize];
-        self.push(p.class, h)
-    }
-
-    // The head of class c runs.
-    fn start(mut self, c: u8) -> Machine
-        requires { ⌜ c < 3 ⌝ }
-        ensures { λ r. ⌜ r ≡ start self c ⌝ }
-    {
-        let q = self.ready[c as usize];
-        let h = q.at[0];
-        let less = q.rest();
-        self.ready[c as usize] = less;
-        self.running = h;
+        let processes = self.processes;
+        let class = class_of(processes, h);
+        let ready = self.ready;
+        let more = joined(ready, class, h);
+        self.ready = more;
         self
     }
 
-    // A strictly better class that is ready displaces the running process. The class is read from the processes alone: where
-    // the machine is indexed, all of it is copied.
-    pub fn select(self) -> Machine
+    // A strictly better class that is ready displaces the running process.
+    pub fn select(mut self) -> Machine
         ensures { λ r. ⌜ r ≡ select self ⌝ }
     {
-        let ready = self.ready;
-        let best = best_of(ready);
         let i = self.running;
         let processes = self.processes;
         let class = class_of(processes, i);
-        let now = displaces(best, class);
-        if !now {
-            return self;
-        }
-        if 10 <= i {
-            return self.start(best);
-        }
-        self.set_running(10).wake(i).start(best)
-    }
-}
-
-// The class of process i; 3 is nobody's.
-fn class_of(processes: [Process; 10], i: u8) -> u8
-    ensures { λ r. ⌜ r ≡ if (ltb i 10) ((getD processes i noProcess) .class) 3 ⌝ }
-{
-    if i < 10 {
-        let p = processes[i as usize];
-        p.class
-    } else {
-        3
+        let ready = self.ready;
+        let x = selected(ready, i, class);
+        let now = x.ready;
+        self.ready = now;
+        self.running = x.running;
+        self
     }
 }
 

@@ -1,28 +1,56 @@
 // The clock and the bell: who waits for them, how they wake, and the slice.
 ghost use mathlib.Core.Path.{_≡_};
-ghost use Prim.Native.Nat.{_<_};
-ghost use Rattle.machine.specs.State.{proc, timed};
-ghost use Rattle.machine.specs.Clock.{clockWait, bellWait, woken, clockWake, bellWake, nextSecond, timePasses, fallen, sliced, yields, slicePasses, tick, bell};
+ghost use lib.Dec.{leb};
+ghost use Rattle.notation.specs.If.{if};
+ghost use Rattle.machine.specs.declared.Machine.{Machine};
+ghost use Rattle.machine.specs.State.{proc, with};
+ghost use Rattle.machine.specs.Clock.{clockWait, bellWait, nextSecond, timePasses, fallen, yields, slicePasses, tick, bell};
+ghost use Rattle.machine.specs.Parts.{woken, aged};
 use crate::Machine;
 use crate::Process;
 use crate::Queue;
+use crate::classes::Selection;
 use crate::classes::best_of;
-
-impl Process {
-    fn sliced(mut self, slice: u8, class: u8) -> Process
-        ensures { λ r. ⌜ r ≡ sliced self slice class ⌝ }
-    {
-        self.slice = slice;
-        self.class = class;
-        self
-    }
-}
+use crate::classes::joined;
 
 // Class 1 falls to 2.
 fn fallen(c: u8) -> u8
     ensures { λ r. ⌜ r ≡ fallen c ⌝ }
 {
     if c == 1 { 2 } else { c }
+}
+
+impl Process {
+    // Its slice has grown by 10; at 200 it is 0 again, and the class falls.
+    fn aged(mut self) -> Process
+        ensures { λ r. ⌜ r ≡ aged self ⌝ }
+    {
+        let slice = self.slice;
+        if 190 <= slice {
+            self.slice = 0;
+            self.class = fallen(self.class);
+        } else {
+            self.slice = slice + 10;
+        }
+        self
+    }
+}
+
+// At its slice's end, the process goes to the tail of its class if one of its class or better is ready.
+fn yielded(ready: [Queue; 3], running: u8, h: u8, class: u8, over: bool) -> Selection
+    ensures { λ r. ⌜ ((m : Machine) → m .ready ≡ ready → m .running ≡ running → (proc m h) .class ≡ class → with m (m .processes) (m .gates) (r .ready) (r .running) ≡ if over (yields m h) m) ⌝ }
+{
+    let best = best_of(ready);
+    let now = over & (best <= class);
+    if now {
+        let more = joined(ready, class, h);
+        Selection {
+            ready: more,
+            running: 10,
+        }
+    } else {
+        Selection { ready, running }
+    }
 }
 
 // 32,767 goes to 0.
@@ -46,16 +74,13 @@ fn woken(processes: [Process; 10], mut ready: [Queue; 3], mut waiters: Queue) ->
     for i in 0..n {
         let h = waiters.at[0];
         waiters = waiters.rest();
-        let mut c: u8 = 0;
+        let mut class: u8 = 0;
         if h < 10 {
             let p = processes[h as usize];
-            c = p.class;
+            class = p.class;
         }
-        if c < 3 {
-            let q = ready[c as usize];
-            let more = q.pushed(h);
-            ready[c as usize] = more;
-        }
+        let more = joined(ready, class, h);
+        ready = more;
     }
     Waking { ready, waiters }
 }
@@ -83,87 +108,43 @@ impl Machine {
         self
     }
 
-    // All who wait for the clock wake, in order.
-    fn clock_wake(mut self) -> Machine
-        ensures { λ r. ⌜ r ≡ clockWake (self .clock .len) self ⌝ }
-    {
-        let processes = self.processes;
-        let ready = self.ready;
-        let waiters = self.clock;
-        let x = woken(processes, ready, waiters);
-        let now = x.ready;
-        let rest = x.waiters;
-        self.ready = now;
-        self.clock = rest;
-        self
-    }
-
-    fn bell_wake(mut self) -> Machine
-        ensures { λ r. ⌜ r ≡ bellWake (self .bell .len) self ⌝ }
-    {
-        let processes = self.processes;
-        let ready = self.ready;
-        let waiters = self.bell;
-        let x = woken(processes, ready, waiters);
-        let now = x.ready;
-        let rest = x.waiters;
-        self.ready = now;
-        self.bell = rest;
-        self
-    }
-
-    fn timed(mut self, seconds: u16, fraction: u16) -> Machine
-        ensures { λ r. ⌜ r ≡ timed self (self .stop) (self .line) seconds fraction ⌝ }
-    {
-        self.seconds = seconds;
-        self.fraction = fraction;
-        self
-    }
-
     // At 10,000 a second is over, and all who wait for the clock wake.
-    fn time_passes(self) -> Machine
+    fn time_passes(mut self) -> Machine
         ensures { λ r. ⌜ r ≡ timePasses self ⌝ }
     {
         let fraction = self.fraction;
-        let seconds = self.seconds;
         if 9990 <= fraction {
-            let next = next_second(seconds);
-            self.timed(next, 0).clock_wake()
+            self.seconds = next_second(self.seconds);
+            self.fraction = 0;
+            let processes = self.processes;
+            let ready = self.ready;
+            let x = woken(processes, ready, self.clock);
+            let now = x.ready;
+            let rest = x.waiters;
+            self.ready = now;
+            self.clock = rest;
         } else {
-            self.timed(seconds, fraction + 10)
+            self.fraction = fraction + 10;
         }
+        self
     }
 
-    // The process goes to the tail if one of its class or better is ready.
-    fn yields(self, h: u8) -> Machine
-        requires { ⌜ h < 10 ⌝ }
-        ensures { λ r. ⌜ r ≡ yields self h ⌝ }
+    // The slice of who ran grows by 10; at 200 it is 0 again, class 1 falls to 2, and the process may have to yield.
+    fn slice_passes(mut self, h: u8) -> Machine
+        ensures { λ r. ⌜ r ≡ if (leb 10 h) self (slicePasses self h) ⌝ }
     {
-        let best = best_of(self.ready);
-        let p = self.processes[h as usize];
-        if best <= p.class {
-            self.set_running(10).wake(h)
-        } else {
-            self
+        if h < 10 {
+            let p = self.processes[h as usize];
+            let older = p.aged();
+            self.processes[h as usize] = older;
+            let over = 190 <= p.slice;
+            let ready = self.ready;
+            let x = yielded(ready, self.running, h, older.class, over);
+            let now = x.ready;
+            self.ready = now;
+            self.running = x.running;
         }
-    }
-
-    // The slice grows by 10; at 200 it is 0 again.
-    fn slice_passes(self, h: u8) -> Machine
-        ensures { λ r. ⌜ r ≡ slicePasses self h ⌝ }
-    {
-        if 10 <= h {
-            return self;
-        }
-        let p = self.processes[h as usize];
-        if 190 <= p.slice {
-            let class = fallen(p.class);
-            let new = p.sliced(0, class);
-            self.with_process(h, new).yields(h)
-        } else {
-            let new = p.sliced(p.slice + 10, p.class);
-            self.with_process(h, new)
-        }
+        self
     }
 
     // 10 units of 1/10,000 s, and the selection after it.
@@ -171,17 +152,20 @@ impl Machine {
         ensures { λ r. ⌜ r ≡ tick self ⌝ }
     {
         let i = self.running;
-        if 10 <= i {
-            self.time_passes().select()
-        } else {
-            self.time_passes().slice_passes(i).select()
-        }
+        self.time_passes().slice_passes(i).select()
     }
 
     // The bell: all its waiters wake in order.
-    pub fn ring(self) -> Machine
+    pub fn ring(mut self) -> Machine
         ensures { λ r. ⌜ r ≡ bell self ⌝ }
     {
-        self.bell_wake().select()
+        let processes = self.processes;
+        let ready = self.ready;
+        let x = woken(processes, ready, self.bell);
+        let now = x.ready;
+        let rest = x.waiters;
+        self.ready = now;
+        self.bell = rest;
+        self.select()
     }
 }

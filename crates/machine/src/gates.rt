@@ -1,16 +1,18 @@
 // Gates: enter, leave, delay, continue, new gate.
 ghost use mathlib.Core.Path.{_≡_};
 ghost use Prim.Native.Nat.{_-_};
-ghost use lib.Dec.{leb};
+ghost use lib.Dec.{leb, ltb};
 ghost use lib.ListN.{getD, set};
 ghost use Rattle.notation.specs.If.{if};
 ghost use Rattle.machine.specs.declared.Machine.{Machine};
 ghost use Rattle.machine.specs.State.{more, proc, noProcess, noGate};
-ghost use Rattle.machine.specs.Classes.{setRunning};
-ghost use Rattle.machine.specs.Gate.{latest, entered, given, sit, grant, giveUp, pass, handOn, enter, leave, delay, continue, makeGate, mayEnter, mayLeave, mayContinue, mayDelay};
+ghost use Rattle.machine.specs.Gate.{latest, entered, given, grant, enter, leave, delay, continue, makeGate, mayEnter, mayLeave, mayContinue, mayDelay};
+ghost use Rattle.machine.specs.Parts.{handedOn, resumed, lostGate, handOver};
 use crate::Gate;
 use crate::Machine;
 use crate::Process;
+use crate::Queue;
+use crate::classes::joined;
 use crate::queues::less;
 
 pub(crate) fn wide(x: u8) -> u16
@@ -63,6 +65,12 @@ impl Process {
     }
 }
 
+// What becomes of a gate that is given up, and whether somebody holds it next.
+struct Handed {
+    gate: Gate,
+    passes: bool,
+}
+
 impl Gate {
     fn cell(self, c: u8) -> u8
         ensures { λ r. ⌜ r ≡ getD (self .cells) c 0 ⌝ }
@@ -82,6 +90,62 @@ impl Gate {
             self.cells[c as usize] = x;
         }
         self
+    }
+
+    // The first waiter holds, else the gate opens.
+    fn handed_on(mut self) -> Handed
+        ensures { λ r. ⌜ r ≡ handedOn self ⌝ }
+    {
+        let q = self.queue;
+        if q.len == 0 {
+            self.holder = 10;
+            return Handed {
+                gate: self,
+                passes: false,
+            };
+        }
+        let h = q.at[0];
+        let less = q.rest();
+        self.holder = h;
+        self.queue = less;
+        Handed {
+            gate: self,
+            passes: true,
+        }
+    }
+
+    // The process in the cell holds, before all that wait, or if the cell is empty, as in leave.
+    fn resumed(self, c: u8) -> Handed
+        ensures { λ r. ⌜ r ≡ resumed self c ⌝ }
+    {
+        let h = self.cell(c);
+        if 10 <= h {
+            return self.handed_on();
+        }
+        let mut w = self.seat(c, 10);
+        w.holder = h;
+        Handed {
+            gate: w,
+            passes: true,
+        }
+    }
+}
+
+// One that is not there has no waiter, and process 0 in each cell.
+fn gate_of(gates: [Gate; 25], g: u8) -> Gate
+    ensures { λ r. ⌜ r ≡ if (ltb g 25) (getD gates g noGate) lostGate ⌝ }
+{
+    if g < 25 {
+        gates[g as usize]
+    } else {
+        Gate {
+            holder: 0,
+            queue: Queue {
+                len: 0,
+                at: [0; 10],
+            },
+            cells: [0; 8],
+        }
     }
 }
 
@@ -104,69 +168,34 @@ impl Machine {
         self
     }
 
-    // The caller gives g up.
-    fn give_up(mut self, g: u8) -> Machine
-        ensures { λ r. ⌜ r ≡ giveUp self g (self .running) ⌝ }
-    {
-        let i = self.running;
-        if i < 10 {
-            let p = self.processes[i as usize];
-            let fewer = p.given();
-            self.processes[i as usize] = fewer;
-        }
-        if g < 25 {
-            let mut w = self.gates[g as usize];
-            w.holder = 10;
-            self.gates[g as usize] = w;
-        }
-        self
-    }
-
-    // The caller sits in cell c of g, and runs no longer.
-    fn sit_down(mut self, g: u8, c: u8) -> Machine
-        ensures { λ r. ⌜ r ≡ sit (setRunning self 10) g c (self .running) ⌝ }
-    {
-        let i = self.running;
-        self.running = 10;
-        if g < 25 {
-            let w = self.gates[g as usize];
-            let seated = w.seat(c, i);
-            self.gates[g as usize] = seated;
-        }
-        self
-    }
-
-    // A process that waited or sat holds g, and is ready.
-    fn pass(self, g: u8, h: u8) -> Machine
-        ensures { λ r. ⌜ r ≡ pass self g h ⌝ }
-    {
-        self.grant(g, h).wake(h)
-    }
-
-    // i gives g up: the first waiter holds, else the gate opens.
-    fn release(mut self, g: u8, i: u8) -> Machine
-        ensures { λ r. ⌜ r ≡ handOn (giveUp self g i) g ⌝ }
+    // i gives g up, which becomes what it was handed on as; who holds it next is ready.
+    fn hand_over(mut self, g: u8, i: u8, x: Handed) -> Machine
+        ensures { λ r. ⌜ r ≡ handOver self g i x ⌝ }
     {
         if i < 10 {
             let p = self.processes[i as usize];
             let fewer = p.given();
             self.processes[i as usize] = fewer;
         }
-        if 25 <= g {
-            return self;
-        }
-        let mut w = self.gates[g as usize];
-        let q = w.queue;
-        w.holder = 10;
-        if q.len == 0 {
+        let w = x.gate;
+        if g < 25 {
             self.gates[g as usize] = w;
+        }
+        if !x.passes {
             return self;
         }
-        let h = q.at[0];
-        let less = q.rest();
-        w.queue = less;
-        self.gates[g as usize] = w;
-        self.pass(g, h)
+        let h = w.holder;
+        let mut class: u8 = 0;
+        if h < 10 {
+            let p = self.processes[h as usize];
+            let more = p.entered(g);
+            self.processes[h as usize] = more;
+            class = more.class;
+        }
+        let ready = self.ready;
+        let now = joined(ready, class, h);
+        self.ready = now;
+        self
     }
 
     // ---- the operations of the running process, where no fault forbids them
@@ -204,33 +233,30 @@ impl Machine {
         ensures { λ r. ⌜ r ≡ leave self g ⌝ }
     {
         let i = self.running;
-        self.release(g, i)
+        let gates = self.gates;
+        let w = gate_of(gates, g);
+        self.hand_over(g, i, w.handed_on())
     }
 
     // The caller sits in the cell, and the gate is given up as in leave.
-    pub fn delay(self, g: u8, c: u8) -> Machine
+    pub fn delay(mut self, g: u8, c: u8) -> Machine
         ensures { λ r. ⌜ r ≡ delay self g c ⌝ }
     {
         let i = self.running;
-        self.sit_down(g, c).release(g, i)
+        self.running = 10;
+        let gates = self.gates;
+        let w = gate_of(gates, g);
+        self.hand_over(g, i, w.seat(c, i).handed_on())
     }
 
     // The caller is out; the process in the cell holds, before all that wait, or if the cell is empty, as in leave.
-    pub fn continue_cell(mut self, g: u8, c: u8) -> Machine
+    pub fn continue_cell(self, g: u8, c: u8) -> Machine
         ensures { λ r. ⌜ r ≡ continue self g c ⌝ }
     {
-        // a gate that is not there has process 0 in each cell
-        if 25 <= g {
-            return self.give_up(g).pass(g, 0);
-        }
-        let w = self.gates[g as usize];
-        let h = w.cell(c);
-        if 10 <= h {
-            return self.leave(g);
-        }
-        let empty = w.seat(c, 10);
-        self.gates[g as usize] = empty;
-        self.give_up(g).pass(g, h)
+        let i = self.running;
+        let gates = self.gates;
+        let w = gate_of(gates, g);
+        self.hand_over(g, i, w.resumed(c))
     }
 
     // A new gate, shut and held by the caller.

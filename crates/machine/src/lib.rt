@@ -6,7 +6,9 @@ mod gates;
 mod processes;
 mod queues;
 
+pub use classes::Selection;
 pub use classes::is_better_ready;
+pub use classes::selected;
 use image::Header;
 pub use processes::stop_answer;
 ghost use mathlib.Core.Path.{_≡_};

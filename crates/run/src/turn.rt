@@ -263,7 +263,10 @@ pub(crate) fn turns(
         }
         let displaced = displaces(ended, m.ready, class);
         if displaced {
-            m = m.select();
+            let chosen = machine::selected(m.ready, j, class);
+            let ready = chosen.ready;
+            m.ready = ready;
+            m.running = chosen.running;
         }
         let on = is_onward(ended);
         if !on {

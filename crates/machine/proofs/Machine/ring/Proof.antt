@@ -1,11 +1,11 @@
-use borrow.Author.Needs.{needs}
-use Rattle.machine.specs.Classes.{select}
 use Rattle.machine.specs.Clock.{bell}
+use Rattle.machine.proofs.Laws.{bell-woken}
+use borrow.Author.Needs.{needs}
 use Rattle.machine.proofs.Machine.ring.Statement.{statement}
 use Rattle.machine.proofs.Machine.ring.Tie as tie
 
-bell-wake-requires : tie.Need-bell-wake-requires
-bell-wake-requires c κs = search needs
+woken-requires : tie.Need-woken-requires
+woken-requires c κs = search needs
 
 select-requires : tie.Need-select-requires
 select-requires c κs = search needs
@@ -13,7 +13,8 @@ select-requires c κs = search needs
 returns : tie.Need-returns
 unfolding bell
 returns c =
-    rw (c .select .ensures, c .before .bell-wake .ensures)
+    let m = c .before .before .before .before .before .before .args .self in
+    rw (c .select .ensures, bell-woken (m .bell .len) m (record { ready = m .ready; waiters = m .bell }), c .before .before .before .woken .ensures)
 
 pub ring-spec : {M : Type 1} → statement M
-ring-spec = tie.close (tie.spec bell-wake-requires select-requires returns)
+ring-spec = tie.close (tie.spec woken-requires select-requires returns)
