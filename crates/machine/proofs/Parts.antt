@@ -1,5 +1,5 @@
--- A gate given up and a cell of it changed, a child made and placed, in either order; the stop of a job; and what changes where
--- there is no such process or gate
+-- A gate given up and a cell of it changed, in either order; a gate given up and handed on, written once; a child made and placed,
+-- in either order; the stop of a job; and what changes where there is no such process or gate
 use mathlib.Core.Path.{_≡_, _∙_, ap, refl, sym}
 use mathlib.Core.Bool.{true, false, _&&_, _||_, not}
 use Prim.Native.Nat.{ℕ, _≤_, _<_}
