@@ -106,14 +106,14 @@ pub fn perform(m: Machine, act: Act) -> Machine
         Act::Go => m,
         Act::WaitClock => m.clock_wait(),
         Act::WaitBell => m.bell_wait(),
-        Act::Create(t, v) => m.create_process(t, v),
-        Act::Finish => m.finish(),
-        Act::StopJob(q, reason) => m.stop_job(q, reason),
+        Act::Create(t, v) => moves::create_process(m, t, v),
+        Act::Finish => moves::finish(m),
+        Act::StopJob(q, reason) => moves::stop_job(m, q, reason),
         Act::Enter(g) => m.enter(g),
         Act::Leave(g) => m.leave(g),
         Act::Delay(g, c) => m.delay(g, c),
         Act::Continue(g, c) => m.continue_cell(g, c),
         Act::MakeGate => m.make_gate(),
-        Act::Start(d, operation, a) => m.device_start(d, operation, a),
+        Act::Start(d, operation, a) => moves::device_start(m, d, operation, a),
     }
 }

@@ -40,7 +40,7 @@ pub fn device_done(
         let able = one & (x.process < 10);
         if able {
             write_record(x, status, arg, common, private);
-            m.device_end(d).select()
+            moves::device_end(m, d).select()
         } else {
             m
         }

@@ -35,7 +35,7 @@ pub(crate) fn call6(who: Caller, gates: [Gate; 25], private: &[u16]) -> Decision
     let words = has_words(r, 1);
     if words {
         let g = byte(stack_word(who.number, r, 0, private));
-        let may = process.may_enter(who.number, gates, who.made, g);
+        let may = moves::may_enter(process, who.number, gates, who.made, g);
         if may {
             goes(who, r.s + 1, Act::Enter(g))
         } else {
@@ -56,7 +56,7 @@ pub(crate) fn call7(who: Caller, private: &[u16]) -> Decision
     let words = has_words(r, 1);
     if words {
         let g = byte(stack_word(who.number, r, 0, private));
-        let may = process.may_leave(who.made, g);
+        let may = moves::may_leave(process, who.made, g);
         if may {
             goes(who, r.s + 1, Act::Leave(g))
         } else {
@@ -78,7 +78,7 @@ pub(crate) fn call8(who: Caller, gates: [Gate; 25], private: &[u16]) -> Decision
     if words {
         let c = byte(stack_word(who.number, r, 0, private));
         let g = byte(stack_word(who.number, r, 1, private));
-        let may = process.may_delay(gates, who.made, g, c);
+        let may = moves::may_delay(process, gates, who.made, g, c);
         if may {
             goes(who, r.s + 2, Act::Delay(g, c))
         } else {
@@ -100,7 +100,7 @@ pub(crate) fn call9(who: Caller, private: &[u16]) -> Decision
     if words {
         let c = byte(stack_word(who.number, r, 0, private));
         let g = byte(stack_word(who.number, r, 1, private));
-        let may = process.may_continue(who.made, g, c);
+        let may = moves::may_continue(process, who.made, g, c);
         if may {
             goes(who, r.s + 2, Act::Continue(g, c))
         } else {

@@ -89,7 +89,7 @@ pub(crate) fn call5(who: Caller, processes: [Process; 10], private: &mut [u16]) 
     if words {
         let reason = stack_word(i, r, 0, private);
         let q = stack_word(i, r, 1, private);
-        let answer = machine::stop_answer(processes, i, process, who.created, q, reason);
+        let answer = moves::stop_answer(processes, i, process, who.created, q, reason);
         put(i, r.s + 1, answer, private);
         goes(who, r.s + 1, Act::StopJob(q, reason))
     } else {

@@ -8,14 +8,14 @@ ghost use Rattle.notation.specs.If.{if};
 ghost use Rattle.machine.specs.declared.Machine.{Machine};
 ghost use Rattle.machine.specs.State.{noProcess, noQueue, proc, with};
 ghost use Rattle.machine.specs.Queue.{first, rest};
-ghost use Rattle.machine.specs.Classes.{setRunning, joined, push, wake, best, select};
+ghost use Rattle.machine.specs.Classes.{joined, best, select};
 use crate::Machine;
 use crate::Process;
 use crate::Queue;
 
 // ---- the ready queues alone: they are 33 bytes, and where they are indexed no machine is copied
 // h joins the tail of class c.
-pub(crate) fn joined(mut ready: [Queue; 3], c: u8, h: u8) -> [Queue; 3]
+pub fn joined(mut ready: [Queue; 3], c: u8, h: u8) -> [Queue; 3]
     ensures { λ r. ⌜ r ≡ joined ready c h ⌝ }
 {
     if c < 3 {
@@ -68,7 +68,7 @@ pub fn selected(ready: [Queue; 3], i: u8, class: u8) -> Selection
 }
 
 // The class of process i; one that is not there has class 0.
-pub(crate) fn class_of(processes: [Process; 10], i: u8) -> u8
+pub fn class_of(processes: [Process; 10], i: u8) -> u8
     ensures { λ r. ⌜ r ≡ (getD processes i noProcess) .class ⌝ }
 {
     if i < 10 {
@@ -80,36 +80,6 @@ pub(crate) fn class_of(processes: [Process; 10], i: u8) -> u8
 }
 
 impl Machine {
-    // h runs, or nobody does.
-    pub(crate) fn set_running(mut self, h: u8) -> Machine
-        ensures { λ r. ⌜ r ≡ setRunning self h ⌝ }
-    {
-        self.running = h;
-        self
-    }
-
-    // h joins the tail of class c.
-    pub(crate) fn push(mut self, c: u8, h: u8) -> Machine
-        ensures { λ r. ⌜ r ≡ push self c h ⌝ }
-    {
-        let ready = self.ready;
-        let more = joined(ready, c, h);
-        self.ready = more;
-        self
-    }
-
-    // Woken processes and new holders join the tail of their class.
-    pub(crate) fn wake(mut self, h: u8) -> Machine
-        ensures { λ r. ⌜ r ≡ wake self h ⌝ }
-    {
-        let processes = self.processes;
-        let class = class_of(processes, h);
-        let ready = self.ready;
-        let more = joined(ready, class, h);
-        self.ready = more;
-        self
-    }
-
     // A strictly better class that is ready displaces the running process.
     pub fn select(mut self) -> Machine
         ensures { λ r. ⌜ r ≡ select self ⌝ }

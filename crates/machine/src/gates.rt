@@ -4,9 +4,8 @@ ghost use Prim.Native.Nat.{_-_};
 ghost use lib.Dec.{leb, ltb};
 ghost use lib.ListN.{getD, set};
 ghost use Rattle.notation.specs.If.{if};
-ghost use Rattle.machine.specs.declared.Machine.{Machine};
-ghost use Rattle.machine.specs.State.{more, proc, noProcess, noGate};
-ghost use Rattle.machine.specs.Gate.{latest, entered, given, grant, enter, leave, delay, continue, makeGate, mayEnter, mayLeave, mayContinue, mayDelay};
+ghost use Rattle.machine.specs.State.{more, noGate};
+ghost use Rattle.machine.specs.Gate.{entered, given, grant, enter, leave, delay, continue, makeGate};
 ghost use Rattle.machine.specs.Parts.{handedOn, resumed, lostGate, handOver};
 use crate::Gate;
 use crate::Machine;
@@ -14,12 +13,6 @@ use crate::Process;
 use crate::Queue;
 use crate::classes::joined;
 use crate::queues::less;
-
-pub(crate) fn wide(x: u8) -> u16
-    ensures { λ r. ⌜ r ≡ x ⌝ }
-{
-    x as u16
-}
 
 // Giving up the last gate held makes the class 2.
 fn class_without(holds: u8) -> u8
@@ -51,18 +44,6 @@ impl Process {
         self.holds = less(n);
         self
     }
-
-    fn latest(self) -> u8
-        ensures { λ r. ⌜ r ≡ latest self ⌝ }
-    {
-        let k = less(self.holds);
-        if k < 8 {
-            let held = self.held;
-            held[k as usize]
-        } else {
-            0
-        }
-    }
 }
 
 // What becomes of a gate that is given up, and whether somebody holds it next.
@@ -72,15 +53,12 @@ struct Handed {
 }
 
 impl Gate {
-    fn cell(self, c: u8) -> u8
+    // Who sits in cell c; in one that is not there, 0.
+    pub fn cell(self, c: u8) -> u8
         ensures { λ r. ⌜ r ≡ getD (self .cells) c 0 ⌝ }
     {
-        if c < 8 {
-            let cells = self.cells;
-            cells[c as usize]
-        } else {
-            0
-        }
+        let cells = self.cells;
+        if c <= 7 { cells[c as usize] } else { 0 }
     }
 
     fn seat(mut self, c: u8, x: u8) -> Gate
@@ -275,73 +253,4 @@ pub(crate) fn one_more(x: u8, k: u8) -> u8
     ensures { λ r. ⌜ r ≡ more x k ⌝ }
 {
     if x < k { x + 1 } else { x }
-}
-
-// ---- fault 8
-// What it asks of the processes or the gates alone; one that is not there has none.
-pub(crate) fn holds_of(processes: [Process; 10], h: u8) -> u8
-    ensures { λ r. ⌜ r ≡ (getD processes h noProcess) .holds ⌝ }
-{
-    if h < 10 {
-        let p = processes[h as usize];
-        p.holds
-    } else {
-        0
-    }
-}
-
-fn holder_of(gates: [Gate; 25], g: u8) -> u8
-    ensures { λ r. ⌜ r ≡ (getD gates g noGate) .holder ⌝ }
-{
-    if g < 25 {
-        let w = gates[g as usize];
-        w.holder
-    } else {
-        0
-    }
-}
-
-fn cell_of(gates: [Gate; 25], g: u8, c: u8) -> u8
-    ensures { λ r. ⌜ r ≡ getD ((getD gates g noGate) .cells) c 0 ⌝ }
-{
-    if g < 25 {
-        let w = gates[g as usize];
-        w.cell(c)
-    } else {
-        0
-    }
-}
-
-// The caller's record is asked, with the parts of the machine that it needs: who asks keeps no copy of the machine.
-impl Process {
-    // A gate there is, not held by the caller, which is process i and has room for one more.
-    pub fn may_enter(self, i: u8, gates: [Gate; 25], made: u8, g: u8) -> bool
-        ensures { λ r. ⌜ ((m : Machine) → m .running ≡ i → proc m (m .running) ≡ self → m .gates ≡ gates → m .made ≡ made → r ≡ mayEnter m g) ⌝ }
-    {
-        let holder = holder_of(gates, g);
-        (g < made) & !(holder == i) & (self.holds < 8)
-    }
-
-    // A gate there is, and the latest that the caller entered.
-    pub fn may_leave(self, made: u8, g: u8) -> bool
-        ensures { λ r. ⌜ ((m : Machine) → proc m (m .running) ≡ self → m .made ≡ made → r ≡ mayLeave m g) ⌝ }
-    {
-        let latest = self.latest();
-        (g < made) & (0 < self.holds) & (latest == g)
-    }
-
-    pub fn may_continue(self, made: u8, g: u8, c: u8) -> bool
-        ensures { λ r. ⌜ ((m : Machine) → proc m (m .running) ≡ self → m .made ≡ made → r ≡ mayContinue m g c) ⌝ }
-    {
-        let may = self.may_leave(made, g);
-        may & (c <= 7)
-    }
-
-    pub fn may_delay(self, gates: [Gate; 25], made: u8, g: u8, c: u8) -> bool
-        ensures { λ r. ⌜ ((m : Machine) → proc m (m .running) ≡ self → m .gates ≡ gates → m .made ≡ made → r ≡ mayDelay m g c) ⌝ }
-    {
-        let x = cell_of(gates, g, c);
-        let may = self.may_continue(made, g, c);
-        may & (10 <= x)
-    }
 }

@@ -1,16 +1,15 @@
 // The machine's state, its limits and the fresh machine. What it does is defined in specs/.
 mod classes;
 mod clock;
-mod devices;
 mod gates;
-mod processes;
 mod queues;
 
 pub use classes::Selection;
+pub use classes::class_of;
 pub use classes::is_better_ready;
+pub use classes::joined;
 pub use classes::selected;
 use image::Header;
-pub use processes::stop_answer;
 ghost use mathlib.Core.Path.{_≡_};
 ghost use Rattle.machine.specs.State.{started, fresh};
 
