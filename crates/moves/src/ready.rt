@@ -1,3 +1,4 @@
+// Who runs and who is ready, for a move that changes more than one part of the machine.
 ghost use mathlib.Core.Path.{_≡_};
 ghost use Rattle.machine.specs.Classes.{push, setRunning, wake};
 use machine::Machine;
