@@ -1,18 +1,29 @@
 -- An instruction that faults or calls the kernel leaves both stores: each of the words that the instructions are told in does
-use mathlib.Core.Path.{_≡_, refl, subst}
-use mathlib.Core.Bool.{Bool, _&&_, _||_}
+use mathlib.Core.Path.{_≡_, refl, sym, ap, subst, _∙_}
+use mathlib.Core.Bool.{Bool, true, false, _&&_, _||_}
 use mathlib.Core.List.{List}
 use Prim.Native.Nat.{ℕ, _+_}
 use lib.Dec.{ltb, leb, eqb}
 use Rattle.notation.specs.If.{if}
-use Rattle.notation.proofs.Upto.{split}
+use borrow.Author.Tests.{lt-ltb, lt-leb}
+use Rattle.notation.proofs.Upto.{split, never}
 use Rattle.word.specs.Word.{Reckoned, word, fault, unaryW, binaryW, localAddrW, rangeW, indexW, caseW}
 use Rattle.machine.specs.declared.Regs.{Regs}
 use Rattle.machine.specs.Store.{Place, inCommon, inOwn, nowhere}
 use Rattle.machine.specs.View.{View, Out, next, faults, calls, Effect, effect, n, op, arg, past, local, top, under, faulted, needsCode, needsWords, toTarget, needsRoom, pushes, replaces, stays, located, fetched, stores}
 use Rattle.machine.specs.Job.{endJob, takesStop}
 use Rattle.machine.specs.Instruction.{newline, pushconst, pushind, copyword, localaddr, pop, index, range, unary, binary, jump, falsejump, toCase, casejump, call, enter, exit, callprog, exitprog, ktrap, perform, execute, settled, instruct}
-use Rattle.promises.specs.Faults.{FaultsKeep, StopsKeep, CallsKeep}
+use Rattle.machine.specs.State.{nobody}
+use Rattle.machine.specs.Store.{World}
+use Rattle.machine.specs.Call.{Called, on, starts, stops, kernel}
+use Rattle.machine.specs.Step.{view, Ended, onward, idle, starting, stopped, Stepped, halted, called, resulted, step}
+use Rattle.promises.specs.Faults.{FaultsKeep, StopsKeep, CallsKeep, StoppingStep, FaultEndsJob}
+
+abbrev isStopped : Ended → Bool
+isStopped onward = false
+isStopped idle = false
+isStopped (starting d) = false
+isStopped stopped = true
 
 abbrev Stored : View → Out → List ℕ → List ℕ → Type 0
 Stored v (next r) c q = Unit {0}
@@ -129,3 +140,34 @@ stops-keep v f e = all-same v (instruct v) (faults f) e (answered v (instruct-ke
 
 pub calls-keep : CallsKeep
 calls-keep v k e = all-same v (instruct v) (calls k) e (answered v (instruct-kept v) e)
+
+-- ---- a whole step
+clash : {X : Type 0} {e : Ended} → e ≡ stopped → isStopped e ≡ false → X
+clash e n = never (sym (ap isStopped e) ∙ n)
+
+-- the number of a stop stands in the machine
+stops-so : (w : World) (s : Stepped) (f : ℕ) → s ≡ halted w f → s ≡ halted w (s .world .machine .stop)
+unfolding halted
+stops-so w s f e = e ∙ ap (halted w) (sym (ap (λ (x : Stepped). x .world .machine .stop) e))
+
+called-stops : (w : World) (c : Called) → (called w c) .ended ≡ stopped → called w c ≡ halted w ((called w c) .world .machine .stop)
+called-stops w (on v) e = clash e refl
+called-stops w (starts d v) e = clash e refl
+called-stops w (stops f) e = stops-so w _ f refl
+
+result-stops : (w : World) (o : Out) (c q : List ℕ) → (resulted w o c q) .ended ≡ stopped
+    → resulted w o c q ≡ halted w ((resulted w o c q) .world .machine .stop)
+result-stops w (next r) c q e = clash e refl
+result-stops w (faults f) c q e = stops-so w _ f refl
+result-stops w (calls k) c q e = called-stops w (kernel w k) e
+
+pub stopping-step : StoppingStep
+unfolding step
+stopping-step code w e =
+    let d : Effect = instruct (view code w) in
+    split (leb nobody (w .machine .running)) (λ t. clash (rw t at e) refl) (λ t. rw t (result-stops w (d .out) (d .common) (d .own) (rw t at e)))
+
+pub fault-ends-job : FaultEndsJob
+unfolding step instruct endJob
+fault-ends-job code w f runs job free e room =
+    rw (lt-leb nobody (w .machine .running) runs, free, e, job, lt-ltb _ _ room)

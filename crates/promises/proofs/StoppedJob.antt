@@ -28,7 +28,7 @@ use Rattle.machine.specs.Sound.{sound}
 use Rattle.machine.specs.Offer.{refusal6, refusal7, refusal8, refusal9, Offered, did, refuses, offered, offerStep, offerTick, offerBell, offerDone, after, Offer, aStep, aTick, aDone, aBell, offer}
 use Rattle.machine.specs.Release.{isCompleted, byCall}
 use Rattle.promises.specs.SoundKept.{Shaped, afterAll}
-use Rattle.promises.specs.StoppedJob.{isInJob, answers0, stopsJob, staysInJob, resultOf, StoppedJobNeverReturns0, StoppedJobReturns}
+use Rattle.promises.specs.StoppedJob.{isInJob, Pending, staysInJob, resultOf, PendingJobNeverReturns0, PendingJobReturns, answers0, stopsJob, StoppedJobNeverReturns0, StoppedJobReturns}
 use Rattle.promises.proofs.Laws.{idle-step}
 use Rattle.promises.proofs.Runs.{part, equal, in-job}
 use Rattle.promises.proofs.Marks.{Marked, marked}
@@ -40,15 +40,7 @@ use Rattle.promises.proofs.Spares.{set-other}
 use Rattle.promises.proofs.Stepping.{Able, private-long, able-fit, step-moved, able-again, step-took}
 use Rattle.promises.proofs.JobEnds.{Returns, Does, goes, fails, ends, instruct-does}
 
--- process q is in a job with its stop pending
-record Pending (why q : ℕ) (w : World) : Type 0 where
-  shape : Shaped (w .machine)
-  whole : sound (w .machine) ≡ true
-  made : q < w .machine .created
-  job : isInJob w q ≡ true
-  reason : (proc (w .machine) q) .regs .reason ≡ why
-
--- what becomes of it: it is still so, or the job has ended and returned the reason or the number of a fault
+-- what becomes of a pending stop: it is still so, or the job has ended and returned the reason or the number of a fault
 data Fate (why q : ℕ) (w u : World) : Type 0 where
   pends : w .machine .created ≤ u .machine .created → isInJob u q ≡ true → (proc (u .machine) q) .regs .reason ≡ why → Fate why q w u
   over : isInJob u q ≡ false → Returns why (resultOf u q) → Fate why q w u
@@ -119,7 +111,7 @@ module _ (code : List ℕ) (w : World) (why : ℕ) (able : Able code w) (p : Pen
   own-fate = rw (lt-leb nobody i runs) (resulted-fate (instruct-does (view code w) (p .job)))
 
 -- ---- whatever is offered
-module _ (code : List ℕ) (w : World) (why q : ℕ) (some : why ≡ 0 → ⊥) (p : Pending why q w) where
+module _ (code : List ℕ) (w : World) (why q : ℕ) (p : Pending why q w) where
   step-fate : Able code w → Fate why q w ((step code w) .world)
   step-fate able =
       split (eqb q (w .machine .running))
@@ -127,7 +119,7 @@ module _ (code : List ℕ) (w : World) (why q : ℕ) (some : why ≡ 0 → ⊥) 
       (λ t. below? (w .machine .running) nobody
       (λ runs.
       let k = step-moved code w able runs in
-      as-before _ p (k .created) (k .regs q (p .made) (eqb-false q _ t) (λ z. some (sym (p .reason) ∙ z))))
+      as-before _ p (k .created) (k .regs q (p .made) (eqb-false q _ t) (λ z. p .some (sym (p .reason) ∙ z))))
       (λ l. rw (idle-step code w l) (as-before w p (omega arith) refl)))
 
   step-offered : (o : Offered) → offerStep code w ≡ o → Fate why q w (after w o)
@@ -159,7 +151,7 @@ module _ (code : List ℕ) (w : World) (why q : ℕ) (some : why ≡ 0 → ⊥) 
       still (k .0) (k .1) j (offer-fate x)
     where
       still : {u : World} → Shaped (u .machine) → sound (u .machine) ≡ true → isInJob u q ≡ true → Fate why q w u → Pending why q u
-      still shape whole j (pends c i r) = record { shape = shape; whole = whole; made = omega (arith, p .made); job = i; reason = r }
+      still shape whole j (pends c i r) = record { shape = shape; whole = whole; made = omega (arith, p .made); job = i; reason = r; some = p .some }
       still shape whole j (over i r) = never (sym j ∙ i)
 
   ended : {u : World} → isInJob u q ≡ false → Fate why q w u → Returns why (resultOf u q)
@@ -171,14 +163,14 @@ unfolding staysInJob
 stays-first code w q [] e = e
 stays-first code w q (x ∷ xs) e = both (isInJob w q) _ e .0
 
-all-pends : (code : List ℕ) (why q : ℕ) → (why ≡ 0 → ⊥) → (xs : List Offer) (w : World) → Pending why q w → staysInJob code w q xs ≡ true
+all-pends : (code : List ℕ) (why q : ℕ) (xs : List Offer) (w : World) → Pending why q w → staysInJob code w q xs ≡ true
     → Pending why q (afterAll code w xs)
 unfolding staysInJob afterAll
-all-pends code why q some [] w p e = p
-all-pends code why q some (x ∷ xs) w p e =
+all-pends code why q [] w p e = p
+all-pends code why q (x ∷ xs) w p e =
     let rest = both (isInJob w q) _ e .1 in
-    let next = next-pends code w why q some p x (stays-first code _ q xs rest) in
-    all-pends code why q some xs _ next rest
+    let next = next-pends code w why q p x (stays-first code _ q xs rest) in
+    all-pends code why q xs _ next rest
 
 -- ---- the step that stops the job
 set-self : (m : Machine) (q : ℕ) (p : Process) → q < length (m .processes) → proc (withProcess m q p) q ≡ p
@@ -235,7 +227,7 @@ module _ (code : List ℕ) (w : World) (q : ℕ) (able : Able code w) (runs : w 
       let named = equal (stackWord w 1) q t (λ f. simp (f, and-false)) in
       rw (lt-leb nobody (w .machine .running) runs, e, five, call5-on w (rw five at done), named)
 
-  stop-pends : (k : ℕ) → (instruct (view code w)) .out ≡ calls k → isStop k ≡ true → Pending reason q ((step code w) .world) × (16 ≤ reason)
+  stop-pends : (k : ℕ) → (instruct (view code w)) .out ≡ calls k → isStop k ≡ true → Pending reason q ((step code w) .world)
   stop-pends k e t =
       let zero = equal (stopAnswer (w .machine) q reason) 0 t (λ f. simp (f, and-false)) in
       let stops = stops-of (w .machine) q reason zero in
@@ -244,24 +236,23 @@ module _ (code : List ℕ) (w : World) (q : ℕ) (able : Able code w) (runs : w 
       let u = stop-world k e t in
       let again = able-again code w able runs in
       let all : (proc ((step code w) .world .machine) q) .regs ≡ stopping ((proc (w .machine) q) .regs) reason =
-      ap (λ (x : World). (proc (x .machine) q) .regs) u ∙ fixed-select _ .regs q ∙ regs in (
-        record {
-          shape = again .shape;
-          whole = again .sound;
-          made = omega (arith, stops .made, step-moved code w able runs .created);
-          job = ap (λ r. r .«in_job») all ∙ stops .job;
-          reason = ap (λ r. r .reason) all;
-        },
-        stops .low,
-      )
+      ap (λ (x : World). (proc (x .machine) q) .regs) u ∙ fixed-select _ .regs q ∙ regs in
+      record {
+        shape = again .shape;
+        whole = again .sound;
+        made = omega (arith, stops .made, step-moved code w able runs .created);
+        job = ap (λ r. r .«in_job») all ∙ stops .job;
+        reason = ap (λ r. r .reason) all;
+        some = λ z. omega (arith, stops .low);
+      }
 
-  by-out : (o : Out) → (instruct (view code w)) .out ≡ o → byCall o isStop ≡ true → Pending reason q ((step code w) .world) × (16 ≤ reason)
+  by-out : (o : Out) → (instruct (view code w)) .out ≡ o → byCall o isStop ≡ true → Pending reason q ((step code w) .world)
   by-out (next r) e t = never (sym t)
   by-out (faults f) e t = never (sym t)
   by-out (calls k) e t = stop-pends k e t
 
 first-pends : (code : List ℕ) (w : World) (q : ℕ) (s : Stepped) → Shaped (w .machine) → offer code w aStep ≡ did s → stopsJob code w q ≡ true
-    → Pending (stackWord w 0) q (s .world) × (16 ≤ stackWord w 0)
+    → Pending (stackWord w 0) q (s .world)
 unfolding offer stopsJob
 first-pends code w q s shape e t =
     let took = step-took code w s shape e in
@@ -269,14 +260,19 @@ first-pends code w q s shape e t =
     rw (← took .same) (by-out code w q (took .able) (ltb-true _ _ (b .0)) _ refl (b .1))
 
 -- ---- the theorems
+pub pending-job-returns : PendingJobReturns
+pending-job-returns code w why q xs x p stay n =
+    let last = all-pends code why q xs w p stay in
+    ended code _ why q last n (offer-fate code _ why q last x)
+
+pub pending-job-never-returns-0 : PendingJobNeverReturns0
+pending-job-never-returns-0 code w why q xs x p stay n z =
+    ⊎-elim (λ r. p .some (sym r ∙ z)) (λ r. omega arith) (pending-job-returns code w why q xs x p stay n)
+
 pub stopped-job-returns : StoppedJobReturns
 stopped-job-returns code w q s xs x shape e t stay n =
-    let first = first-pends code w q s shape e t in
-    let some : stackWord w 0 ≡ 0 → ⊥ = λ z. omega (arith, first .1) in
-    let p = all-pends code (stackWord w 0) q some xs (s .world) (first .0) stay in
-    ended code _ (stackWord w 0) q some p n (offer-fate code _ (stackWord w 0) q some p x)
+    pending-job-returns code (s .world) (stackWord w 0) q xs x (first-pends code w q s shape e t) stay n
 
 pub stopped-job-never-returns-0 : StoppedJobNeverReturns0
-stopped-job-never-returns-0 code w q s xs x shape e t stay n z =
-    let low = first-pends code w q s shape e t .1 in
-    ⊎-elim (λ r. omega (arith, low)) (λ r. omega arith) (stopped-job-returns code w q s xs x shape e t stay n)
+stopped-job-never-returns-0 code w q s xs x shape e t stay n =
+    pending-job-never-returns-0 code (s .world) (stackWord w 0) q xs x (first-pends code w q s shape e t) stay n
