@@ -71,8 +71,8 @@ static inline unsigned plumbsorrel_device(uint64_t answer) { return (unsigned)(a
 static inline uint32_t plumbsorrel_count(uint64_t answer) { return (uint32_t)(answer >> 32); }
 
 /* Loads an image: writes its code to the first n words of `code`, clears both stores and writes a fresh machine to
- * `state`, whatever stood there. Refuses with 1 to 5 (the image), 6 (a store's length), 7 (the state is not of 820
- * words), 10 (fewer than n words for the code). Leaves the code buffer past n as it was. */
+ * `state`, whatever stood there. Refuses with 1 to 5 (the image), 6 (a store's length), 10 (fewer than n words for
+ * the code, or fewer than 820 for the state). Leaves the code buffer past n and the state past 820 as they were. */
 uint64_t plumbsorrel_load(const uint8_t *image, size_t image_length, uint16_t *code, size_t code_length,
                           uint16_t *common, size_t common_length, uint16_t *private_store, size_t private_length,
                           uint16_t *state, size_t state_length);

@@ -15,9 +15,8 @@ use Rattle.promises.proofs.Faults.{stops-keep, calls-keep}
 use Rattle.promises.proofs.Runs.{part, at-most, equal, in-job, job-high}
 use Rattle.engine.specs.declared.stack.Out.{Out}
 use Rattle.engine.specs.declared.stack.Out.the-variants.{Next, Fault as Fails, Call as Calls}
-use Rattle.engine.specs.declared.burst.End.the-variants.{Budget, Call, Fault, Job}
 use Rattle.engine.specs.Did.{did, ReadyToEnd}
-use Rattle.engine.specs.Burst.{bursted, moved, jobOver, follows, after, goesOn, fit}
+use Rattle.engine.specs.Burst.{atBudget, atCall, atFault, atJobsEnd, bursted, moved, jobOver, follows, after, goesOn, fit}
 
 -- what the tests of a burst's beginning tell
 pub told : (v : View) → fit v ≡ true → Fit v × (n v ≤ 16256)
@@ -55,7 +54,7 @@ ready v f h =
 
 -- the budget is spent
 pub spent : (v : View) (budget count : ℕ) → budget ≤ count
-    → bursted (v .regs) count Budget (v .common) (v .own) ≡ goesOn count (budget - count) v
+    → bursted (v .regs) count atBudget (v .common) (v .own) ≡ goesOn count (budget - count) v
 unfolding goesOn
 spent v budget count h = let z : budget - count ≡ 0 = omega arith in rw z
 
@@ -82,7 +81,7 @@ module _ (v : View) (o : Out) (c q : List ℕ) (did-it : did o c q ≡ instruct 
     turn d e = let s : budget - count ≡ suc (budget - (count + 1)) = omega arith in rw (s, e)
 
     pub job-over : (r : Regs) → o ≡ Next r → jobOver (v .regs) r ≡ true
-        → bursted r (count + 1) Job c q ≡ goesOn count (budget - count) v
+        → bursted r (count + 1) atJobsEnd c q ≡ goesOn count (budget - count) v
     job-over r k j = sym (turn (effect (next r) c q) (answers k) ∙ rw j)
 
     pub goes-on : (r : Regs) → o ≡ Next r → jobOver (v .regs) r ≡ false
@@ -90,13 +89,13 @@ module _ (v : View) (o : Out) (c q : List ℕ) (did-it : did o c q ≡ instruct 
     goes-on r k j = turn (effect (next r) c q) (answers k) ∙ rw j
 
     -- a fault and a kernel call are left as they were found
-    pub at-fault : (f : ℕ) → o ≡ Fails f → bursted (v .regs) count (Fault f) c q ≡ goesOn count (budget - count) v
+    pub at-fault : (f : ℕ) → o ≡ Fails f → bursted (v .regs) count (atFault f) c q ≡ goesOn count (budget - count) v
     at-fault f k =
         let e : effect (faults f) c q ≡ instruct v = answers k in
         let same : effect (faults f) c q ≡ faulted v f = e ∙ stops-keep v f (ap (λ d. d .out) (sym e)) in
         rw (ap (λ d. d .common) same, ap (λ d. d .own) same) (sym (turn (effect (faults f) c q) e))
 
-    pub at-call : (j : ℕ) → o ≡ Calls j → bursted (v .regs) count (Call j) c q ≡ goesOn count (budget - count) v
+    pub at-call : (j : ℕ) → o ≡ Calls j → bursted (v .regs) count (atCall j) c q ≡ goesOn count (budget - count) v
     at-call j k =
         let e : effect (calls j) c q ≡ instruct v = answers k in
         let same : effect (calls j) c q ≡ effect (calls j) (v .common) (v .own) = e ∙ calls-keep v j (ap (λ d. d .out) (sym e)) in

@@ -13,15 +13,36 @@ use Rattle.engine.specs.declared.burst.Burst.{Burst}
 use Rattle.engine.specs.declared.burst.End.{End}
 use Rattle.engine.specs.declared.burst.End.the-variants.{Budget, Call, Fault, Job, Unfit}
 
--- ---- how it ends: at its budget; at a kernel call or a fault, which is not done here; at a job's end; or it is not fit to begin
--- the registers then, how many instructions went on, and the stores
+-- ---- how it ends: at its budget; in front of kernel call k, or of the instruction that faults with f; at a job's end; or it is
+-- not fit to begin
+pub data Ending : Type 0 where
+  atBudget : Ending
+  atCall : ℕ → Ending
+  atFault : ℕ → Ending
+  atJobsEnd : Ending
+  unfit : Ending
+
+-- the registers then, how many instructions went on, the end, and the stores
 pub record Bursted : Type 0 where
-  pub burst : Burst
+  pub regs : Regs
+  pub count : ℕ
+  pub ending : Ending
   pub common : List ℕ
   pub own : List ℕ
 
-abbrev pub bursted : Regs → ℕ → End → List ℕ → List ℕ → Bursted
-bursted r count end c q = record { burst = record { regs = r; count = count; end = end }; common = c; own = q }
+abbrev pub bursted : Regs → ℕ → Ending → List ℕ → List ℕ → Bursted
+bursted r count e c q = record { regs = r; count = count; ending = e; common = c; own = q }
+
+-- the cases of the code's answer, with the stores after it
+abbrev pub endSays : End → Ending
+endSays Budget = atBudget
+endSays (Call k) = atCall k
+endSays (Fault f) = atFault f
+endSays Job = atJobsEnd
+endSays Unfit = unfit
+
+abbrev pub burstSays : Burst → List ℕ → List ℕ → Bursted
+burstSays x c q = bursted (x .regs) (x .count) (endSays (x .end)) c q
 
 -- the same process with other registers and stores
 abbrev pub moved : View → Regs → List ℕ → List ℕ → View
@@ -32,9 +53,9 @@ abbrev pub jobOver : Regs → Regs → Bool
 jobOver before after = before .«in_job» && not (after .«in_job»)
 
 abbrev pub follows : Out → View → Effect → ℕ → Bursted → Bursted
-follows (next r) v d count more = if (jobOver (v .regs) r) (bursted r (count + 1) Job (d .common) (d .own)) more
-follows (faults f) v d count more = bursted (v .regs) count (Fault f) (v .common) (v .own)
-follows (calls k) v d count more = bursted (v .regs) count (Call k) (v .common) (v .own)
+follows (next r) v d count more = if (jobOver (v .regs) r) (bursted r (count + 1) atJobsEnd (d .common) (d .own)) more
+follows (faults f) v d count more = bursted (v .regs) count (atFault f) (v .common) (v .own)
+follows (calls k) v d count more = bursted (v .regs) count (atCall k) (v .common) (v .own)
 
 abbrev pub after : Out → View → Effect → View
 after (next r) v d = moved v r (d .common) (d .own)
@@ -43,7 +64,7 @@ after (calls k) v d = v
 
 -- up to k instructions, where count went on before
 unfoldable pub goesOn : ℕ → ℕ → View → Bursted
-goesOn count zero v = bursted (v .regs) count Budget (v .common) (v .own)
+goesOn count zero v = bursted (v .regs) count atBudget (v .common) (v .own)
 goesOn count (suc k) v =
     let d : Effect = instruct v in
     let more : Bursted = goesOn (count + 1) k (after (d .out) v d) in
@@ -63,4 +84,4 @@ fit v =
     && jobOk (n v) (v .regs)
 
 unfoldable pub bursts : ℕ → View → Bursted
-bursts budget v = if (fit v) (goesOn 0 budget v) (bursted (v .regs) 0 Unfit (v .common) (v .own))
+bursts budget v = if (fit v) (goesOn 0 budget v) (bursted (v .regs) 0 unfit (v .common) (v .own))

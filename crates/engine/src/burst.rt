@@ -7,10 +7,11 @@ ghost use lib.ListN.{length};
 ghost use Rattle.machine.specs.Sound.{jobOk};
 ghost use Rattle.promises.specs.Marks.{Fit};
 ghost use Rattle.engine.specs.Did.{seen};
-ghost use Rattle.engine.specs.Burst.{goesOn, bursts, fit};
+ghost use Rattle.engine.specs.Burst.{burstSays, goesOn, bursts, fit};
 use crate::perform::instruct;
 use crate::stack::Out;
 use crate::stack::wide;
+use machine::Machine;
 use machine::Regs;
 
 // How a burst ends: a kernel call and a fault are left to be done.
@@ -33,17 +34,18 @@ fn job_is_ok(n: usize, r: Regs) -> bool
     ensures { λ x. ⌜ x ≡ jobOk n r ⌝ }
 {
     if r.in_job {
-        let stop = (r.reason == 0) | ((16 <= r.reason) & (r.reason <= 255));
+        let stop = (r.reason == 0)
+            | ((Machine::FIRST_REASON <= r.reason) & (r.reason <= Machine::LAST_REASON));
         let end = wide(r.c) + wide(r.p);
         let back = wide(r.saved_address);
         (r.c == r.saved_s)
             & (r.saved_s <= r.saved_b)
-            & (r.saved_b <= 4096)
-            & (end <= 4096)
+            & (r.saved_b <= Machine::CEILING)
+            & (end <= Machine::CEILING_AT)
             & (back <= n)
             & stop
     } else {
-        (r.c == 4096) & (r.reason == 0)
+        (r.c == Machine::CEILING) & (r.reason == 0)
     }
 }
 
@@ -54,11 +56,11 @@ fn is_fit(code: &[u16], floor: u16, r: Regs, common: usize, own: usize) -> bool
     let n = code.len();
     let at = wide(r.address);
     let job = job_is_ok(n, r);
-    (common == 2048)
-        & (own == 2048)
-        & (n <= 16256)
+    (common == Machine::COMMON)
+        & (own == Machine::PART)
+        & (n <= Machine::MOST_CODE)
         & (at <= n)
-        & (2048 <= floor)
+        & (Machine::OWN <= floor)
         & (floor <= r.s)
         & (r.s <= r.b)
         & (r.b <= r.c)
@@ -75,7 +77,7 @@ pub fn run_burst(
     common: &mut [u16],
     own: &mut [u16],
 ) -> Burst
-    ensures { λ x. ⌜ record { burst = x; common = now (common .exit); own = now (own .exit) } ≡ bursts budget (seen (now (code .entry)) floor holding r (now (common .entry)) (now (own .entry))) ⌝ }
+    ensures { λ x. ⌜ burstSays x (now (common .exit)) (now (own .exit)) ≡ bursts budget (seen (now (code .entry)) floor holding r (now (common .entry)) (now (own .entry))) ⌝ }
 {
     let fit = is_fit(code, floor, r, common.len(), own.len());
     if !fit {
@@ -99,7 +101,7 @@ fn go_on(
     own: &mut [u16],
 ) -> Burst
     requires { ⌜ Fit (seen (now code) floor holding r (now common) (now own)) × (length (now code) ≤ 16256) ⌝ }
-    ensures { λ x. ⌜ record { burst = x; common = now (common .exit); own = now (own .exit) } ≡ goesOn 0 budget (seen (now (code .entry)) floor holding r (now (common .entry)) (now (own .entry))) ⌝ }
+    ensures { λ x. ⌜ burstSays x (now (common .exit)) (now (own .exit)) ≡ goesOn 0 budget (seen (now (code .entry)) floor holding r (now (common .entry)) (now (own .entry))) ⌝ }
 {
     let mut regs = r;
     let mut count: u32 = 0;

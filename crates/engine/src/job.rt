@@ -7,6 +7,7 @@ ghost use Rattle.machine.specs.Instruction.{inJob, callprog, exitprog, ktrap};
 ghost use Rattle.engine.specs.Did.{OnCode, OnStack, OnHolding, Ready, ReadyToEnd};
 use crate::stack::Out;
 use crate::stack::wide;
+use machine::Machine;
 use machine::Regs;
 use word::fault;
 
@@ -24,7 +25,7 @@ pub(crate) fn end_job(floor: u16, r: Regs, result: u16, own: &mut [u16]) -> Out
             line: r.line,
             s,
             b: r.saved_b,
-            c: 4096,
+            c: Machine::CEILING,
             in_job: false,
             saved_s: 0,
             saved_b: 0,

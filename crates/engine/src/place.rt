@@ -13,6 +13,7 @@ use crate::stack::Out;
 use crate::stack::moved;
 use crate::stack::replace;
 use crate::stack::wide;
+use machine::Machine;
 use machine::Regs;
 use word::Answer;
 use word::fault;
@@ -43,10 +44,10 @@ pub(crate) fn locate(floor: u16, r: Regs, a: u16) -> Place
 fn place_of(a: u16) -> Place
     ensures { λ x. ⌜ found x ≡ placeOf a ⌝ }
 {
-    if a < 2048 {
+    if a < Machine::OWN {
         Place::Common(wide(a))
-    } else if a < 4096 {
-        Place::Own(wide(a - 2048))
+    } else if a < Machine::CEILING {
+        Place::Own(wide(a - Machine::OWN))
     } else {
         Place::Nowhere
     }

@@ -1,24 +1,26 @@
 -- Laws of the loops' turns, of the chain of checks and of the bytes that are written
-use mathlib.Core.Path.{_≡_, refl, ap, _∙_}
+use mathlib.Core.Path.{_≡_, refl, sym, ap, _∙_}
 use mathlib.Core.Bool.{Bool, true, false, not, _&&_}
 use mathlib.Core.List.{List, []}
 use Prim.Native.Nat.{ℕ, _+_, _-_, _*_, _/_, _%_, _<_, _≤_}
 use native.Mathlib.Omega.{arith}
 use native.Mathlib.Numerals.{add-one}
-use borrow.Author.Tests.{ltb-false, eqb-true, eqb-false, ne-eqb, not-false}
+use borrow.Author.Tests.{le-leb, ltb-false, eqb-true, eqb-false, ne-eqb, not-false}
 use borrow.Rule.Slice.PartMut.{putMid}
 use lib.Dec.{eqb}
-use lib.ListN.{length, set}
+use lib.ListN.{length, getD, set}
 use Rattle.image.specs.declared.head.Header.{Header}
 use Rattle.image.specs.declared.table.Refusal.{Refusal}
+use Rattle.image.specs.declared.reader.Reading.{Reading}
+use Rattle.image.specs.declared.reader.Reading.the-variants.{Accepted, Refused}
 use Rattle.image.specs.declared.table.Check.{Check}
 use Rattle.image.specs.declared.table.Check.the-variants.{Passed, Failed}
 use Rattle.notation.specs.Upto.{sumTo, allTo, listTo, laid}
 use Rattle.notation.proofs.Upto.{neither, list-same, laid-more, laid-part, length-laid}
-use Rattle.image.specs.Refusal.{Reply, taken, refused, _then_, refusedBy, checkSays}
+use Rattle.image.specs.Refusal.{Reply, taken, refused, _then_, numberOf, named, refusedBy, checkSays}
 use Rattle.image.specs.Block.{wordAt}
-use Rattle.image.specs.Header.{goodHeader, codeBlocks}
-use Rattle.image.specs.Read.{refuse, refusal1, refusal2, refusal3, refusal4, refusal5, refusal10, checks, written}
+use Rattle.image.specs.Header.{fields, goodHeader, headerOf, codeBlocks}
+use Rattle.image.specs.Read.{refuse, refusal1, refusal2, refusal3, refusal4, refusal5, refusal10, imageRows, examined, checks, readSays, codeAt, copied, reading, written}
 use Rattle.image.specs.Write.{body, check, blockWord, blockByte, imageByte, imageLength, writeChecks}
 
 -- ---- turns of a loop: a wrapping sum, a test of all
@@ -86,18 +88,126 @@ pub size-fits : (room size : ℕ) (vs : List ℕ) → taken vs ≡ refusal10 roo
 unfolding refusal10
 size-fits room size vs e = ltb-false room size (passed 10 _ vs e)
 
-pub accepted-fits :
-    (bytes : List ℕ) (room : ℕ) (vs : List ℕ) →
-    taken vs ≡ checks bytes (taken []) room →
-    (512 ≤ length bytes) × (512 * (1 + codeBlocks (wordAt bytes 2)) ≤ length bytes) × (wordAt bytes 2 ≤ room)
+pub first-block : (bytes vs : List ℕ) → taken vs ≡ imageRows bytes (taken []) → 512 ≤ length bytes
+first-block bytes vs e = one-block-long (length bytes) _ ((both-taken vs (refusal1 (length bytes)) _ e) .0 .1)
+
+inside-all : (bytes vs : List ℕ) → taken vs ≡ imageRows bytes (taken []) → 512 * (1 + codeBlocks (wordAt bytes 2)) ≤ length bytes
+inside-all bytes vs e =
+    let p1 = both-taken vs (refusal1 (length bytes)) _ e in
+    let p2 = both-taken vs (refusal2 bytes) _ (p1 .1) in
+    let p3 = both-taken vs (refusal3 bytes) _ (p2 .1) in
+    let p4 = both-taken vs (refusal4 (length bytes) (wordAt bytes 2)) _ (p3 .1) in
+    code-inside _ _ _ (p4 .0 .1)
+
+-- ---- rows 1 to 5, and what comes after them
+over-row : (r x y next : Reply) → x then next ≡ y → (r then x) then next ≡ r then y
+over-row (taken vs) x y next e = e
+over-row (refused n vs) x y next e = refl
+
+pub rows-then : (bytes : List ℕ) (next : Reply) → imageRows bytes (taken []) then next ≡ imageRows bytes next
+rows-then bytes next =
+    let n : ℕ = wordAt bytes 2 in
+    over-row (refusal1 (length bytes)) _ _ next
+    (over-row (refusal2 bytes) _ _ next
+    (over-row (refusal3 bytes) _ _ next
+    (over-row (refusal4 (length bytes) n) _ _ next (over-row (refusal5 bytes n) (taken []) next next refl))))
+
+-- the last of them says what all of them say
+pub last : (k : Check) (r : Reply) → checkSays k ≡ r → checkSays k ≡ r then taken []
+last k r e = rw (← e) (said k)
+  where
+    said : (k : Check) → checkSays k ≡ checkSays k then taken []
+    said Passed = refl
+    said (Failed x) = refl
+
+pub examined-so : (bytes : List ℕ) (k : Check) → checkSays k ≡ imageRows bytes (taken []) → checkSays k then taken (fields (headerOf bytes)) ≡ examined bytes
+unfolding examined
+examined-so bytes k e = rw e (rows-then bytes (taken (fields (headerOf bytes))))
+
+-- what an examined image is answered, whatever comes after rows 1 to 5
+pub over-all : (x : Reply) (vs : List ℕ) (n : ℕ) (ws : List ℕ) (next : Reply) → x then taken vs ≡ refused n ws → x then next ≡ refused n ws
+over-all (taken us) vs n ws next e = taken-isnt-refused vs ws n e
+over-all (refused m us) vs n ws next e = e
+
+abbrev values : Reply → List ℕ
+values (taken vs) = vs
+values (refused n vs) = vs
+
+pub through-all : (x : Reply) (vs ws : List ℕ) (next : Reply) → x then taken vs ≡ taken ws → ((us : List ℕ) × (taken us ≡ x)) × (x then next ≡ next) × (vs ≡ ws)
+through-all (taken us) vs ws next e = ((us, refl), refl, ap values e)
+through-all (refused m us) vs ws next e = taken-isnt-refused ws us m (sym e)
+
+abbrev pub headerFrom : List ℕ → Header
+headerFrom l = record { edition = getD l 0 0; length = getD l 1 0; devices = getD l 2 0; variables = getD l 3 0 }
+
+module _ (bytes : List ℕ) (x : Reading) (e : readSays x ≡ examined bytes) where
+  by-rows : imageRows bytes (taken []) then taken (fields (headerOf bytes)) ≡ readSays x
+  unfolding examined
+  by-rows = rows-then bytes (taken (fields (headerOf bytes))) ∙ sym e
+
+  pub examined-refuses : (r : Refusal) (next : Reply) → x ≡ Refused r → imageRows bytes next ≡ refusedBy r
+  examined-refuses r next t =
+      sym (rows-then bytes next) ∙ over-all (imageRows bytes (taken [])) (fields (headerOf bytes)) (numberOf r) (named r) next (rw t at by-rows)
+
+  pub examined-accepts : (h : Header) (next : Reply) → x ≡ Accepted h → (imageRows bytes next ≡ next) × (headerOf bytes ≡ h)
+  examined-accepts h next t =
+      let p = through-all (imageRows bytes (taken [])) (fields (headerOf bytes)) (fields h) next (rw t at by-rows) in
+      (sym (rows-then bytes next) ∙ p .1, ap headerFrom (p .2))
+
+  -- an accepted image has its code
+  pub examined-holds : (h : Header) → x ≡ Accepted h → 512 * (1 + codeBlocks (h .length)) ≤ length bytes
+  examined-holds h t =
+      let p = through-all (imageRows bytes (taken [])) (fields (headerOf bytes)) (fields h) (taken []) (rw t at by-rows) in
+      let g : headerOf bytes ≡ h = ap headerFrom (p .2) in
+      rw (← g) (inside-all bytes (p .0 .0) (p .0 .1))
+
+pub copied-fits : (bytes : List ℕ) (n : ℕ) (code : List ℕ) → n ≤ length code → 512 * (1 + codeBlocks n) ≤ length bytes → copied bytes n code ≡ laid (codeAt bytes) n code
+unfolding copied
+copied-fits bytes n code l m = rw (le-leb n (length code) l, le-leb (512 * (1 + codeBlocks n)) (length bytes) m)
+
+-- ---- reading: the image by itself, then the room
+module _ (bytes : List ℕ) (x : Reading) (e : readSays x ≡ examined bytes) (code : List ℕ) where
+  abbrev new : List ℕ
+  new = laid (codeAt bytes) (wordAt bytes 2) code
+
+  pub read-refuses : (r : Refusal) → x ≡ Refused r → (readSays x ≡ reading bytes (length code)) × (code ≡ written (reading bytes (length code)) new code)
+  unfolding checks
+  read-refuses r t =
+      let z = examined-refuses bytes x e r (refusal10 (length code) (wordAt bytes 2)) t in
+      (rw (z, t), rw z)
+
+  module _ (h : Header) (t : x ≡ Accepted h) (k : Check) (f : checkSays k ≡ refusal10 (length code) (h .length)) where
+    all-rows : checks bytes (taken []) (length code) ≡ checkSays k
+    unfolding checks
+    all-rows =
+        let p = examined-accepts bytes x e h (refusal10 (length code) (wordAt bytes 2)) t in
+        p .0 ∙ ap (λ (z : Header). refusal10 (length code) (z .length)) (p .1) ∙ sym f
+
+    pub read-short : (y : Refusal) → k ≡ Failed y → (checkSays k then taken (fields h) ≡ reading bytes (length code)) × (code ≡ written (reading bytes (length code)) new code)
+    read-short y u = (rw (all-rows, u), rw (all-rows, u))
+
+    pub read-taken : k ≡ Passed → (taken (fields h) ≡ reading bytes (length code)) × (copied bytes (h .length) code ≡ written (reading bytes (length code)) new code)
+    read-taken u =
+        let p = examined-accepts bytes x e h (taken []) t in
+        let r : taken [] ≡ refusal10 (length code) (h .length) = rw u at f in
+        let c = copied-fits bytes (h .length) code (size-fits (length code) (h .length) [] r) (examined-holds bytes x e h t) in
+        let n : wordAt bytes 2 ≡ h .length = ap (λ (z : Header). z .length) (p .1) in
+        (rw (all-rows, u) (sym (ap (λ (z : Header). taken (fields z)) (p .1))), rw (all-rows, u, n) c)
+
+-- where every check has passed
+pub checked-fits :
+    (bytes : List ℕ) (lent : Reply) (room : ℕ) (vs : List ℕ) →
+    taken vs ≡ checks bytes lent room →
+    ((ws : List ℕ) × (taken ws ≡ lent)) × (512 * (1 + codeBlocks (wordAt bytes 2)) ≤ length bytes) × (wordAt bytes 2 ≤ room)
 unfolding checks
-accepted-fits bytes room vs e =
+checked-fits bytes lent room vs e =
     let p1 = both-taken vs (refusal1 (length bytes)) _ e in
     let p2 = both-taken vs (refusal2 bytes) _ (p1 .1) in
     let p3 = both-taken vs (refusal3 bytes) _ (p2 .1) in
     let p4 = both-taken vs (refusal4 (length bytes) (wordAt bytes 2)) _ (p3 .1) in
     let p5 = both-taken vs (refusal5 bytes (wordAt bytes 2)) _ (p4 .1) in
-    (one-block-long _ _ (p1 .0 .1), code-inside _ _ _ (p4 .0 .1), size-fits _ _ _ (p5 .1))
+    let p6 = both-taken vs lent _ (p5 .1) in
+    (p6 .0, code-inside _ _ _ (p4 .0 .1), size-fits _ _ _ (p6 .1))
 
 pub image-fits : (h : Header) (words room : ℕ) (vs : List ℕ) → taken vs ≡ writeChecks h words room → imageLength (h .length) ≤ room
 unfolding writeChecks

@@ -2,7 +2,7 @@
 use mathlib.Core.Bool.{Bool, not, _&&_, _||_}
 use mathlib.Core.List.{List, [], _∷_}
 use Prim.Native.Nat.{ℕ, _+_, _-_, _*_, _/_, _%_}
-use lib.Dec.{ltb, eqb}
+use lib.Dec.{ltb, leb, eqb}
 use lib.ListN.{length}
 use Rattle.image.specs.declared.reader.Reading.{Reading}
 use Rattle.image.specs.declared.reader.Reading.the-variants.{Accepted, Refused}
@@ -47,16 +47,23 @@ refusal5 bytes n = refuse 5 (not (allTo (λ k. eqb (codeAt bytes (n + k)) 0) (25
 unfoldable pub refusal10 : ℕ → ℕ → Reply
 refusal10 room size = refuse 10 (ltb room size)
 
--- the table's checks in its order, with n as the header says it; `lent` is what 6 says where stores are lent too
-unfoldable pub checks : List ℕ → Reply → ℕ → Reply
-checks bytes lent room =
+-- rows 1 to 5 in the table's order, with n as the header says it; then what comes after them
+abbrev pub imageRows : List ℕ → Reply → Reply
+imageRows bytes next =
     refusal1 (length bytes)
     then refusal2 bytes
     then refusal3 bytes
     then refusal4 (length bytes) (wordAt bytes 2)
     then refusal5 bytes (wordAt bytes 2)
-    then lent
-    then refusal10 room (wordAt bytes 2)
+    then next
+
+-- an image by itself: its header, or the first refusal of 1 to 5
+unfoldable pub examined : List ℕ → Reply
+examined bytes = imageRows bytes (taken (fields (headerOf bytes)))
+
+-- all that loading and reading ask; `lent` is what 6 says where stores are lent too
+unfoldable pub checks : List ℕ → Reply → ℕ → Reply
+checks bytes lent room = imageRows bytes (lent then refusal10 room (wordAt bytes 2))
 
 abbrev pub reading : List ℕ → ℕ → Reply
 reading bytes room = checks bytes (taken []) room then taken (fields (headerOf bytes))
@@ -66,7 +73,12 @@ abbrev pub readSays : Reading → Reply
 readSays (Accepted h) = taken (fields h)
 readSays (Refused r) = refusedBy r
 
--- "touches only the first n"; a refusal changes nothing
+-- "touches only the first n": the code over the buffer, where the image has it and the buffer has room
+unfoldable pub copied : List ℕ → ℕ → List ℕ → List ℕ
+copied bytes n code =
+    if (leb n (length code) && leb (512 * (1 + codeBlocks n)) (length bytes)) (laid (codeAt bytes) n code) code
+
+-- a refusal changes nothing
 abbrev pub written : Reply → List ℕ → List ℕ → List ℕ
 written (taken vs) after before = after
 written (refused n vs) after before = before

@@ -5,9 +5,9 @@ ghost use mathlib.Core.List.{[]};
 ghost use lib.ListN.{length};
 ghost use Rattle.notation.specs.Upto.{laid};
 ghost use Rattle.image.specs.Block.{wordAt};
-ghost use Rattle.image.specs.Header.{codeBlocks};
-ghost use Rattle.image.specs.Refusal.{taken, checkSays};
-ghost use Rattle.image.specs.Read.{refusal1, refusal2, refusal3, refusal4, refusal5, refusal10, checks, codeAt, reading, readSays, codeAfter};
+ghost use Rattle.image.specs.Header.{fields, codeBlocks};
+ghost use Rattle.image.specs.Refusal.{taken, checkSays, _then_};
+ghost use Rattle.image.specs.Read.{refusal1, refusal2, refusal3, refusal4, refusal5, refusal10, imageRows, examined, codeAt, copied, reading, readSays, codeAfter};
 use crate::block;
 use crate::head;
 use crate::head::Header;
@@ -104,7 +104,7 @@ fn check_fill(image: &[u8], n: usize) -> Check
 }
 
 // 10: output too short.
-pub(crate) fn check_room(room: usize, size: usize) -> Check
+pub fn check_room(room: usize, size: usize) -> Check
     ensures { λ r. ⌜ checkSays r ≡ refusal10 room size ⌝ }
 {
     if room < size {
@@ -114,9 +114,9 @@ pub(crate) fn check_room(room: usize, size: usize) -> Check
     }
 }
 
-// All checks, in the table's order: the first refusal returns at once.
-fn check_all(image: &[u8], room: usize) -> Check
-    ensures { λ r. ⌜ checkSays r ≡ checks (now (image .entry)) (taken []) room ⌝ }
+// 1 to 5, in the table's order: the first refusal returns at once.
+fn check_image(image: &[u8]) -> Check
+    ensures { λ r. ⌜ checkSays r ≡ imageRows (now (image .entry)) (taken []) ⌝ }
 {
     let length = check_length(image.len());
     let Check::Passed = length else {
@@ -135,15 +135,32 @@ fn check_all(image: &[u8], room: usize) -> Check
     let Check::Passed = count else {
         return count;
     };
-    let fill = check_fill(image, n);
-    let Check::Passed = fill else {
-        return fill;
-    };
-    check_room(room, n)
+    check_fill(image, n)
+}
+
+// The header, where the check has passed.
+pub fn accepted(check: Check, header: Header) -> Reading
+    ensures { λ r. ⌜ readSays r ≡ (checkSays check then taken (fields header)) ⌝ }
+{
+    match check {
+        Check::Passed => Reading::Accepted(header),
+        Check::Failed(refusal) => Reading::Refused(refusal),
+    }
+}
+
+// The header of an image; or the first refusal of 1 to 5.
+pub fn examine(image: &[u8]) -> Reading
+    ensures { λ r. ⌜ readSays r ≡ examined (now (image .entry)) ⌝ }
+{
+    let check = check_image(image);
+    match check {
+        Check::Passed => Reading::Accepted(head::read(image)),
+        Check::Failed(refusal) => Reading::Refused(refusal),
+    }
 }
 
 // The first n words of the buffer become the code; the rest stays.
-fn copy_code(image: &[u8], n: usize, code: &mut [u16])
+fn lay_code(image: &[u8], n: usize, code: &mut [u16])
     requires { ⌜ (n ≤ length (now code)) × (512 * (1 + codeBlocks n) ≤ length (now image)) ⌝ }
     ensures { λ r. ⌜ now (code .exit) ≡ laid (codeAt (now (image .entry))) n (now (code .entry)) ⌝ }
 {
@@ -152,15 +169,31 @@ fn copy_code(image: &[u8], n: usize, code: &mut [u16])
     }
 }
 
+// The code of n words, where the image has it and the buffer has room; else nothing changes.
+pub fn copy_code(image: &[u8], n: u16, code: &mut [u16])
+    ensures { λ r. ⌜ now (code .exit) ≡ copied (now (image .entry)) n (now (code .entry)) ⌝ }
+{
+    let words = n as usize;
+    let size = 512 * (1 + head::code_blocks(words));
+    let fits = (words <= code.len()) & (size <= image.len());
+    if fits {
+        lay_code(image, words, code);
+    }
+}
+
 // The header, with the code in the buffer; or the refusal, with the buffer as it was.
 pub fn read(image: &[u8], code: &mut [u16]) -> Reading
     ensures { λ r. ⌜ (readSays r ≡ reading (now (image .entry)) (length (now (code .entry)))) × (now (code .exit) ≡ codeAfter (now (image .entry)) (now (code .entry))) ⌝ }
 {
-    let check = check_all(image, code.len());
-    if let Check::Failed(refusal) = check {
-        return Reading::Refused(refusal);
-    }
-    let header = head::read(image);
-    copy_code(image, header.length as usize, code);
-    Reading::Accepted(header)
+    let examined = examine(image);
+    let Reading::Accepted(header) = examined else {
+        return examined;
+    };
+    let n = header.length;
+    let room = check_room(code.len(), n as usize);
+    let Check::Passed = room else {
+        return accepted(room, header);
+    };
+    copy_code(image, n, code);
+    examined
 }

@@ -2,11 +2,12 @@
 ghost use mathlib.Core.Path.{_≡_};
 ghost use Prim.Native.Nat.{_*_, _≤_, _<_};
 ghost use mathlib.Core.Bool.{not};
+ghost use mathlib.Core.List.{[], _∷_};
 ghost use lib.Dec.{eqb};
 ghost use lib.ListN.{length, getD};
 ghost use Rattle.notation.specs.Upto.{listTo, laid};
 ghost use Rattle.image.specs.Header.{fields, goodHeader, codeBlocks};
-ghost use Rattle.image.specs.Refusal.{checkSays};
+ghost use Rattle.image.specs.Refusal.{taken, checkSays, _then_};
 ghost use Rattle.image.specs.Read.{refuse};
 ghost use Rattle.image.specs.Write.{content, body, blockByte, imageByte, writeChecks, writing, writeSays, bytesAfter};
 use crate::block;
@@ -123,15 +124,25 @@ fn write_blocks(h: Header, code: &[u16], blocks: usize, out: &mut [u8])
     }
 }
 
+// The number of bytes, where the check has passed.
+fn written(check: Check, size: usize) -> Writing
+    ensures { λ r. ⌜ writeSays r ≡ (checkSays check then taken (size ∷ [])) ⌝ }
+{
+    match check {
+        Check::Passed => Writing::Written(size),
+        Check::Failed(refusal) => Writing::Refused(refusal),
+    }
+}
+
 // The number of bytes written; or the refusal, with the output as it was.
 pub fn write(header: Header, code: &[u16], out: &mut [u8]) -> Writing
     ensures { λ r. ⌜ (writeSays r ≡ writing header (length (now (code .entry))) (length (now (out .entry)))) × (now (out .exit) ≡ bytesAfter header (now (code .entry)) (now (out .entry))) ⌝ }
 {
-    let check = check_all(header, code.len(), out.len());
-    if let Check::Failed(refusal) = check {
-        return Writing::Refused(refusal);
-    }
     let blocks = 1 + head::code_blocks(header.length as usize);
+    let check = check_all(header, code.len(), out.len());
+    let Check::Passed = check else {
+        return written(check, 512 * blocks);
+    };
     write_blocks(header, code, blocks, out);
-    Writing::Written(512 * blocks)
+    written(check, 512 * blocks)
 }

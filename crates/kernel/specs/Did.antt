@@ -1,16 +1,18 @@
 -- What the kernel's functions are given and answer, in the words of the definitions
 use mathlib.Core.Path.{_≡_}
-use mathlib.Core.Bool.{Bool, _&&_}
+use mathlib.Core.Bool.{Bool, false, _&&_}
 use mathlib.Core.List.{List, []}
-use Prim.Native.Nat.{ℕ, _≤_, _<_}
+use Prim.Native.Nat.{ℕ, _+_, _≤_, _<_}
 use lib.Dec.{ltb, leb}
-use lib.ListN.{length}
+use lib.ListN.{length, getD, set}
 use Rattle.notation.specs.If.{if}
 use Rattle.machine.specs.declared.Device.{Device}
+use Rattle.machine.specs.declared.Gate.{Gate}
+use Rattle.machine.specs.declared.Process.{Process}
 use Rattle.machine.specs.declared.Machine.{Machine}
 use Rattle.machine.specs.declared.Regs.{Regs}
 use Rattle.machine.specs.State.{nobody, proc, device, timed, withProcess}
-use Rattle.machine.specs.Store.{World, whole}
+use Rattle.machine.specs.Store.{World, own, whole}
 use Rattle.machine.specs.Gate.{enter, leave, delay, continue, makeGate}
 use Rattle.machine.specs.Clock.{clockWait, bellWait}
 use Rattle.machine.specs.Device.{recordOf, deviceStart, deviceDone}
@@ -127,11 +129,50 @@ pub record Told (who : Caller) (m : Machine) : Type 0 where
   pub caller : who ≡ callerOf m
   pub there : m .running < length (m .processes)
 
+-- ---- a decision for a caller, the processes, where the caller's own record is the one that is told, and the gates: for every
+-- machine that has them, it comes to what the definition gives
+abbrev pub Decides : Caller → List Process → List Gate → Decision → List ℕ → List ℕ → List ℕ → List ℕ → (World → Outcome) → Type 0
+Decides who processes gates x c c′ q q′ f =
+    (m : Machine)
+    → who ≡ callerOf m
+    → m .processes ≡ set processes (who .number) (who .process)
+    → m .gates ≡ gates
+    → decided m x c′ q′ ≡ f (world m c q)
+
+-- of a caller that is not able there may be no such machine: nothing is done
+abbrev pub LeavesUnfit : Caller → Decision → List ℕ → List ℕ → List ℕ → List ℕ → Type 0
+LeavesUnfit who x c c′ q q′ = able who ≡ false → (x ≡ record { process = who .process; act = Unfit }) × (c′ ≡ c) × (q′ ≡ q)
+
+-- the same of a caller that is able, by the call's own definition
+abbrev pub CallOf : Caller → List Process → List Gate → ℕ → Decision → List ℕ → List ℕ → List ℕ → List ℕ → Type 0
+CallOf who processes gates k x c c′ q q′ =
+    (m : Machine)
+    → Told who m
+    → m .processes ≡ set processes (who .number) (who .process)
+    → m .gates ≡ gates
+    → OnStores x m c c′ q q′ (λ w. kernel w k)
+
+-- the device, the operation and the record's address that call 11 has found on its caller's stack
+abbrev pub Begins : Caller → ℕ → ℕ → ℕ → List ℕ → List ℕ → Type 0
+Begins who d operation a c q =
+    Able who
+    × (who .process .regs .s + 2 ≤ who .process .regs .b)
+    × (d ≤ 4)
+    × (operation ≤ 3)
+    × (a ≤ 4092)
+    × (a ≡ getD q (own (who .number) (who .process .regs .s + 0)) 0)
+    × (length c ≡ 2048)
+    × (length q ≡ 20480)
+
 -- the call, where the caller and the stores are as in a sound state; else it is not fit to begin, and nothing changes
 unfoldable pub traps : World → ℕ → Outcome
 traps w k =
     if (storesFit (w .common) (w .private) && able (callerOf (w .machine))) (outcome w (kernel w k))
     (record { machine = w .machine; common = w .common; private = w .private; end = stopped })
+
+abbrev pub CallDecided : Caller → List Process → List Gate → ℕ → Decision → List ℕ → List ℕ → List ℕ → List ℕ → Type 0
+CallDecided who processes gates k x c c′ q q′ =
+    Decides who processes gates x c c′ q q′ (λ w. traps w k) × LeavesUnfit who x c c′ q q′
 
 -- ---- the record of a busy device; no words where there is no such device, it is not busy, or a store has the wrong length
 unfoldable pub handedBack : World → ℕ → List ℕ

@@ -1,12 +1,8 @@
 // KTRAP k by its number, where the caller and the stores are fit for it: first the decision, then the move of the machine.
 ghost use mathlib.Core.Path.{_≡_};
-ghost use mathlib.Core.Bool.{false};
-ghost use lib.ListN.{length, set};
-ghost use Rattle.machine.specs.declared.Machine.{Machine};
+ghost use lib.ListN.{length};
 ghost use Rattle.machine.specs.State.{timed};
-ghost use Rattle.machine.specs.Call.{kernel};
-ghost use Rattle.kernel.specs.declared.answer.Act.the-variants.{Unfit};
-ghost use Rattle.kernel.specs.Did.{world, decided, performed, OnStores, Able, able, Told, callerOf, traps};
+ghost use Rattle.kernel.specs.Did.{performed, Able, able, CallOf, CallDecided};
 use crate::answer::Act;
 use crate::answer::Decision;
 use crate::answer::stops;
@@ -16,6 +12,7 @@ use crate::create;
 use crate::io;
 use crate::on_gate;
 use crate::small;
+use image::Header;
 use machine::Gate;
 use machine::Machine;
 use machine::Process;
@@ -24,14 +21,14 @@ use word::fault;
 // The call of a number; any other is 7.
 fn call_of(
     who: Caller,
-    processes: [Process; 10],
-    gates: [Gate; 25],
+    processes: [Process; Machine::PROCESSES as usize],
+    gates: [Gate; Machine::GATES as usize],
     k: u16,
     common: &mut [u16],
     private: &mut [u16],
 ) -> Decision
     requires { ⌜ Able who × (length (now common) ≡ 2048) × (length (now private) ≡ 20480) ⌝ }
-    ensures { λ x. ⌜ ((m : Machine) → Told who m → m .processes ≡ set processes (who .number) (who .process) → m .gates ≡ gates → OnStores x m (now (common .entry)) (now (common .exit)) (now (private .entry)) (now (private .exit)) (λ w. kernel w k)) ⌝ }
+    ensures { λ x. ⌜ CallOf who processes gates k x (now (common .entry)) (now (common .exit)) (now (private .entry)) (now (private .exit)) ⌝ }
 {
     match k {
         0 => small::call0(who),
@@ -56,13 +53,13 @@ fn is_able(who: Caller) -> bool
 {
     let p = who.process;
     let r = p.regs;
-    (who.number < 10)
+    (who.number < Machine::NOBODY)
         & (1 <= who.created)
-        & (who.made <= 25)
-        & (2048 <= r.s)
+        & (who.made <= Machine::GATES)
+        & (Machine::OWN <= r.s)
         & (r.s <= r.b)
-        & (r.b <= 4096)
-        & (r.address <= 16256)
+        & (r.b <= Machine::CEILING)
+        & (r.address <= Header::MOST_LENGTH)
 }
 
 // What a kernel call of the running process does to its record and to the stores, and the move of the machine that is left to do.
@@ -70,16 +67,16 @@ fn is_able(who: Caller) -> bool
 // not able there may be no such machine: it is answered alike.
 pub fn decide(
     who: Caller,
-    processes: [Process; 10],
-    gates: [Gate; 25],
+    processes: [Process; Machine::PROCESSES as usize],
+    gates: [Gate; Machine::GATES as usize],
     k: u16,
     common: &mut [u16],
     private: &mut [u16],
 ) -> Decision
-    ensures { λ x. ⌜ ((m : Machine) → who ≡ callerOf m → m .processes ≡ set processes (who .number) (who .process) → m .gates ≡ gates → decided m x (now (common .exit)) (now (private .exit)) ≡ traps (world m (now (common .entry)) (now (private .entry))) k) × (able who ≡ false → (x ≡ record { process = who .process; act = Unfit }) × (now (common .exit) ≡ now (common .entry)) × (now (private .exit) ≡ now (private .entry))) ⌝ }
+    ensures { λ x. ⌜ CallDecided who processes gates k x (now (common .entry)) (now (common .exit)) (now (private .entry)) (now (private .exit)) ⌝ }
 {
     let able = is_able(who);
-    let fit = (common.len() == 2048) & (private.len() == 20480) & able;
+    let fit = (common.len() == Machine::COMMON) & (private.len() == Machine::PRIVATE) & able;
     if fit {
         call_of(who, processes, gates, k, common, private)
     } else {

@@ -5,6 +5,7 @@ ghost use lib.Dec.{leb};
 ghost use lib.ListN.{length, getD, set};
 ghost use Rattle.machine.specs.Store.{own};
 use machine::Device;
+use machine::Machine;
 use machine::Process;
 use machine::Regs;
 
@@ -47,7 +48,7 @@ pub(crate) fn own(i: u8, a: u16) -> usize
     requires { ⌜ 2048 ≤ a ⌝ }
     ensures { λ r. ⌜ r ≡ own i a ⌝ }
 {
-    2048 * wide_byte(i) + (wide(a) - 2048)
+    Machine::PART * wide_byte(i) + (wide(a) - Machine::COMMON)
 }
 
 // Word j of the caller's stack.
@@ -73,7 +74,7 @@ pub(crate) fn has_room(p: Process) -> bool
     ensures { λ x. ⌜ x ≡ leb (2048 + p .variables + 1) (p .regs .s) ⌝ }
 {
     let r = p.regs;
-    let least = 2048 + wide(p.variables) + 1;
+    let least = Machine::OWN_AT + wide(p.variables) + 1;
     let s = wide(r.s);
     least <= s
 }

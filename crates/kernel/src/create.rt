@@ -1,15 +1,12 @@
 // Call 3: new process.
 ghost use mathlib.Core.Path.{_≡_};
-ghost use mathlib.Core.List.{_++_};
-ghost use Prim.Native.Nat.{_+_, _*_, _-_, _≤_, _<_};
-ghost use lib.ListN.{length, getD, take, drop, replicate};
-ghost use Rattle.notation.specs.Upto.{listTo};
+ghost use Prim.Native.Nat.{_+_, _-_, _≤_, _<_};
+ghost use lib.ListN.{length, getD};
 ghost use Rattle.machine.specs.declared.Machine.{Machine};
-ghost use Rattle.machine.specs.Store.{own};
 ghost use Rattle.machine.specs.View.{cleared};
 ghost use Rattle.machine.specs.Call.{call3};
 ghost use Rattle.kernel.specs.Did.{OnPrivate, Able, Told};
-ghost use Rattle.kernel.specs.Part.{partWith};
+ghost use Rattle.kernel.specs.Part.{partWith, childPart};
 use crate::answer::Act;
 use crate::answer::Decision;
 use crate::answer::goes;
@@ -19,6 +16,8 @@ use crate::caller::has_words;
 use crate::caller::stack_word;
 use crate::caller::wide;
 use crate::caller::wide_byte;
+use image::Header;
+use machine::Machine;
 use word::fault;
 
 // 2,048 words from a place on become zero.
@@ -26,7 +25,7 @@ fn clear(private: &mut [u16], at: usize)
     requires { ⌜ at + 2048 ≤ length (now private) ⌝ }
     ensures { λ x. ⌜ now (private .exit) ≡ cleared (now (private .entry)) at 2048 ⌝ }
 {
-    for k in 0..2048 {
+    for k in 0..Machine::PART {
         private[at + k] = 0;
     }
 }
@@ -44,10 +43,10 @@ fn copy(private: &mut [u16], at: usize, deepest: usize, p: usize)
 // The child's part is cleared, then the p words stand first in the order pushed: the first pushed lies deepest.
 fn new_part(child: u8, s: u16, p: u16, private: &mut [u16])
     requires { ⌜ (1 ≤ child) × (child < 10) × (2048 ≤ s) × (s + (3 + p) ≤ 4096) × (p ≤ 1024) × (length (now private) ≡ 20480) ⌝ }
-    ensures { λ x. ⌜ now (private .exit) ≡ take (2048 * child) (now (private .entry)) ++ (listTo (λ k. getD (now (private .entry)) (own 0 (s + (2 + p - k))) 0) p ++ (replicate (2048 - p) 0 ++ drop (2048 * child + 2048) (now (private .entry)))) ⌝ }
+    ensures { λ x. ⌜ now (private .exit) ≡ childPart (now (private .entry)) child s p ⌝ }
 {
-    let at = 2048 * wide_byte(child);
-    let deepest = wide(s) - 2048 + 2 + wide(p);
+    let at = Machine::PART * wide_byte(child);
+    let deepest = wide(s) - Machine::OWN_AT + 2 + wide(p);
     clear(private, at);
     copy(private, at, deepest, wide(p));
 }
@@ -67,11 +66,11 @@ pub(crate) fn call3(who: Caller, private: &mut [u16]) -> Decision
     let t = stack_word(i, r, 0, private);
     let v = stack_word(i, r, 1, private);
     let p = stack_word(i, r, 2, private);
-    let limit = !(who.number == 0) | (10 <= who.created);
+    let limit = !(who.number == 0) | (Machine::PROCESSES <= who.created);
     if limit {
         return stops(who, fault::LIMIT);
     }
-    let range = (1024 < v) | (v < p);
+    let range = (Header::MOST_VARIABLES < v) | (v < p);
     if range {
         return stops(who, fault::RANGE);
     }

@@ -33,11 +33,11 @@ pub fn device_done(
 ) -> Machine
     ensures { λ x. ⌜ world x (now (common .exit)) (now (private .exit)) ≡ ends (world m (now (common .entry)) (now (private .entry))) d status arg ⌝ }
 {
-    let fit = (common.len() == 2048) & (private.len() == 20480) & (d < 5);
+    let fit = (common.len() == Machine::COMMON) & (private.len() == Machine::PRIVATE) & (d < 5);
     if fit {
         let x = m.devices[d as usize];
         let one = is_whole(x.address);
-        let able = one & (x.process < 10);
+        let able = one & (x.process < Machine::NOBODY);
         if able {
             write_record(x, status, arg, common, private);
             moves::device_end(m, d).select()

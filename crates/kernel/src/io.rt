@@ -8,7 +8,7 @@ ghost use Rattle.machine.specs.declared.Machine.{Machine};
 ghost use Rattle.machine.specs.Store.{own, whole, placeOf, wordIn, commonWith, privateWith};
 ghost use Rattle.machine.specs.Device.{isPresent, isBusy};
 ghost use Rattle.machine.specs.Call.{ioBegins, call11};
-ghost use Rattle.kernel.specs.Did.{world, OnStores, Able, Told, handedBack};
+ghost use Rattle.kernel.specs.Did.{world, OnStores, Able, Told, Begins, handedBack};
 use crate::answer::Act;
 use crate::answer::Decision;
 use crate::answer::goes;
@@ -26,7 +26,7 @@ use word::fault;
 pub(crate) fn is_whole(a: u16) -> bool
     ensures { λ r. ⌜ r ≡ whole a ⌝ }
 {
-    (a <= 2044) | ((2048 <= a) & (a <= 4092))
+    (a <= 2044) | ((Machine::OWN <= a) & (a <= 4092))
 }
 
 // The word at an address of process i.
@@ -34,7 +34,7 @@ fn fetch(i: u8, a: u16, common: &[u16], private: &[u16]) -> u16
     requires { ⌜ (i < 10) × (a < 4096) × (length (now common) ≡ 2048) × (length (now private) ≡ 20480) ⌝ }
     ensures { λ r. ⌜ r ≡ wordIn (placeOf a) i (now (common .entry)) (now (private .entry)) ⌝ }
 {
-    if a < 2048 {
+    if a < Machine::OWN {
         let at = wide(a);
         common[at]
     } else {
@@ -48,7 +48,7 @@ pub(crate) fn store(i: u8, a: u16, x: u16, common: &mut [u16], private: &mut [u1
     requires { ⌜ (i < 10) × (a < 4096) × (length (now common) ≡ 2048) × (length (now private) ≡ 20480) ⌝ }
     ensures { λ r. ⌜ (now (common .exit) ≡ commonWith (placeOf a) x (now (common .entry))) × (now (private .exit) ≡ privateWith (placeOf a) i x (now (private .entry))) ⌝ }
 {
-    if a < 2048 {
+    if a < Machine::OWN {
         let at = wide(a);
         common[at] = x;
     } else {
@@ -86,7 +86,7 @@ fn is_refused(present: u16, devices: [Device; 5], d: u16) -> bool
 {
     let there = is_present(present, d);
     let x = devices[d as usize];
-    !there | (x.process < 10)
+    !there | (x.process < Machine::NOBODY)
 }
 
 // The caller waits for the bell, goes on, or waits for the device; the status stands in its record.
@@ -98,7 +98,7 @@ fn begin(
     common: &mut [u16],
     private: &mut [u16],
 ) -> Decision
-    requires { ⌜ Able who × (who .process .regs .s + 2 ≤ who .process .regs .b) × (d ≤ 4) × (operation ≤ 3) × (a ≤ 4092) × (a ≡ getD (now private) (own (who .number) (who .process .regs .s + 0)) 0) × (length (now common) ≡ 2048) × (length (now private) ≡ 20480) ⌝ }
+    requires { ⌜ Begins who d operation a (now common) (now private) ⌝ }
     ensures { λ x. ⌜ ((m : Machine) → Told who m → OnStores x m (now (common .entry)) (now (common .exit)) (now (private .entry)) (now (private .exit)) (λ w. ioBegins w d operation)) ⌝ }
 {
     let i = who.number;
@@ -151,18 +151,18 @@ pub(crate) fn call11(who: Caller, common: &mut [u16], private: &mut [u16]) -> De
 pub fn record<'a>(m: Machine, d: u8, common: &'a [u16], private: &'a [u16]) -> &'a [u16]
     ensures { λ r. ⌜ now r ≡ handedBack (world m (now (common .entry)) (now (private .entry))) d ⌝ }
 {
-    let fit = (common.len() == 2048) & (private.len() == 20480) & (d < 5);
+    let fit = (common.len() == Machine::COMMON) & (private.len() == Machine::PRIVATE) & (d < 5);
     if !fit {
         return &common[0..0];
     }
     let x = m.devices[d as usize];
     let one = is_whole(x.address);
-    let known = one & (x.process < 10);
+    let known = one & (x.process < Machine::NOBODY);
     if !known {
         return &common[0..0];
     }
     let a = wide(x.address);
-    if a < 2048 {
+    if a < Machine::COMMON {
         let e = a + 4;
         &common[a..e]
     } else {

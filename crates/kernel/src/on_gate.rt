@@ -16,6 +16,7 @@ use crate::caller::has_words;
 use crate::caller::put;
 use crate::caller::stack_word;
 use machine::Gate;
+use machine::Machine;
 use word::fault;
 
 // A word as a number of a gate or a cell: there is none of 255, nor of more.
@@ -26,7 +27,11 @@ pub(crate) fn byte(x: u16) -> u8
 }
 
 // 6 enter: pop gate.
-pub(crate) fn call6(who: Caller, gates: [Gate; 25], private: &[u16]) -> Decision
+pub(crate) fn call6(
+    who: Caller,
+    gates: [Gate; Machine::GATES as usize],
+    private: &[u16],
+) -> Decision
     requires { ⌜ Able who × (length (now private) ≡ 20480) ⌝ }
     ensures { λ x. ⌜ ((m : Machine) → Told who m → m .gates ≡ gates → OnPrivate x m (now (private .entry)) (now (private .entry)) call6) ⌝ }
 {
@@ -68,7 +73,11 @@ pub(crate) fn call7(who: Caller, private: &[u16]) -> Decision
 }
 
 // 8 delay: pop cell, gate.
-pub(crate) fn call8(who: Caller, gates: [Gate; 25], private: &[u16]) -> Decision
+pub(crate) fn call8(
+    who: Caller,
+    gates: [Gate; Machine::GATES as usize],
+    private: &[u16],
+) -> Decision
     requires { ⌜ Able who × (length (now private) ≡ 20480) ⌝ }
     ensures { λ x. ⌜ ((m : Machine) → Told who m → m .gates ≡ gates → OnPrivate x m (now (private .entry)) (now (private .entry)) call8) ⌝ }
 {
@@ -116,11 +125,11 @@ pub(crate) fn call10(who: Caller, private: &mut [u16]) -> Decision
     requires { ⌜ Able who × (length (now private) ≡ 20480) ⌝ }
     ensures { λ x. ⌜ ((m : Machine) → Told who m → OnPrivate x m (now (private .entry)) (now (private .exit)) call10) ⌝ }
 {
-    if 25 <= who.made {
+    if Machine::GATES <= who.made {
         return stops(who, fault::LIMIT);
     }
     let process = who.process;
-    if 8 <= process.holds {
+    if Machine::HELD <= process.holds {
         return stops(who, fault::GATE);
     }
     let room = has_room(process);

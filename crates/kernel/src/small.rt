@@ -13,6 +13,7 @@ use crate::caller::has_room;
 use crate::caller::has_words;
 use crate::caller::put;
 use crate::caller::stack_word;
+use machine::Machine;
 use machine::Process;
 use word::fault;
 
@@ -78,7 +79,11 @@ pub(crate) fn call4(who: Caller) -> Decision
 }
 
 // 5 stop job: pop reason, process; push the answer.
-pub(crate) fn call5(who: Caller, processes: [Process; 10], private: &mut [u16]) -> Decision
+pub(crate) fn call5(
+    who: Caller,
+    processes: [Process; Machine::PROCESSES as usize],
+    private: &mut [u16],
+) -> Decision
     requires { ⌜ Able who × (length (now private) ≡ 20480) ⌝ }
     ensures { λ x. ⌜ ((m : Machine) → Told who m → m .processes ≡ set processes (who .number) (who .process) → OnPrivate x m (now (private .entry)) (now (private .exit)) call5) ⌝ }
 {

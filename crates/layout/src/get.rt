@@ -29,7 +29,7 @@ fn queue(words: &[u16], at: usize) -> Queue
     requires { ⌜ (at + 11 ≤ length (now words)) × (bytes (from (now words) at) 11 ≡ true) ⌝ }
     ensures { λ r. ⌜ r ≡ queueOf (from (now (words .entry)) at) ⌝ }
 {
-    let mut members = [0u8; 10];
+    let mut members = [0u8; Machine::PROCESSES as usize];
     fill(words, at + 1, &mut members);
     Queue {
         len: words[at] as u8,
@@ -42,7 +42,7 @@ fn gate(words: &[u16], at: usize) -> Gate
     ensures { λ r. ⌜ r ≡ gateOf (from (now (words .entry)) at) ⌝ }
 {
     let waiting = queue(words, at + 1);
-    let mut cells = [0u8; 8];
+    let mut cells = [0u8; Machine::CELLS as usize];
     fill(words, at + 12, &mut cells);
     Gate {
         holder: words[at] as u8,
@@ -75,7 +75,7 @@ fn process(words: &[u16], at: usize) -> Process
     ensures { λ r. ⌜ r ≡ processOf (from (now (words .entry)) at) ⌝ }
 {
     let registers = regs(words, at);
-    let mut held = [0u8; 8];
+    let mut held = [0u8; Machine::HELD as usize];
     fill(words, at + 15, &mut held);
     Process {
         regs: registers,
@@ -99,12 +99,12 @@ fn device(words: &[u16], at: usize) -> Device
     }
 }
 
-fn processes(words: &[u16]) -> [Process; 10]
+fn processes(words: &[u16]) -> [Process; Machine::PROCESSES as usize]
     requires { ⌜ (length (now words) ≡ 820) × (allTo (λ i. processFits (from (now words) (24 * i))) 10 ≡ true) ⌝ }
     ensures { λ r. ⌜ r ≡ listTo (λ i. processOf (from (now (words .entry)) (24 * i))) 10 ⌝ }
 {
     let unused = Process::started(0, 0);
-    let mut all = [unused; 10];
+    let mut all = [unused; Machine::PROCESSES as usize];
     for i in 0..10 {
         let p = process(words, 24 * i);
         all[i] = p;
@@ -112,20 +112,20 @@ fn processes(words: &[u16]) -> [Process; 10]
     all
 }
 
-fn gates(words: &[u16]) -> [Gate; 25]
+fn gates(words: &[u16]) -> [Gate; Machine::GATES as usize]
     requires { ⌜ (length (now words) ≡ 820) × (bytes (from (now words) 240) 555 ≡ true) ⌝ }
     ensures { λ r. ⌜ r ≡ listTo (λ g. gateOf (from (now (words .entry)) (240 + 20 * g))) 25 ⌝ }
 {
     let none = Queue {
         len: 0,
-        at: [0; 10],
+        at: [0; Machine::PROCESSES as usize],
     };
     let open = Gate {
         holder: 10,
         queue: none,
-        cells: [10; 8],
+        cells: [Machine::NOBODY; Machine::CELLS as usize],
     };
-    let mut all = [open; 25];
+    let mut all = [open; Machine::GATES as usize];
     for g in 0..25 {
         let x = gate(words, 240 + 20 * g);
         all[g] = x;
@@ -139,7 +139,7 @@ fn ready(words: &[u16]) -> [Queue; 3]
 {
     let none = Queue {
         len: 0,
-        at: [0; 10],
+        at: [0; Machine::PROCESSES as usize],
     };
     let mut all = [none; 3];
     for c in 0..3 {

@@ -132,7 +132,7 @@ pub(crate) fn numbers(to: &mut [u16], m: Machine)
     words(to, 810, &all);
 }
 
-pub(crate) fn processes(to: &mut [u16], all: [Process; 10])
+pub(crate) fn processes(to: &mut [u16], all: [Process; Machine::PROCESSES as usize])
     requires { ⌜ length (now to) ≡ 820 ⌝ }
     ensures { λ r. ⌜ Put (now (to .entry)) 0 (rows (λ i. processWords (getD all i noProcess)) 10) 240 (now (to .exit)) ⌝ }
 {
@@ -142,7 +142,7 @@ pub(crate) fn processes(to: &mut [u16], all: [Process; 10])
     }
 }
 
-pub(crate) fn gates(to: &mut [u16], all: [Gate; 25])
+pub(crate) fn gates(to: &mut [u16], all: [Gate; Machine::GATES as usize])
     requires { ⌜ length (now to) ≡ 820 ⌝ }
     ensures { λ r. ⌜ Put (now (to .entry)) 240 (rows (λ g. gateWords (getD all g noGate)) 25) 500 (now (to .exit)) ⌝ }
 {

@@ -110,10 +110,11 @@ call3 w =
     (on (record { machine = createProcess (popped w (3 + p)) t v; common = w .common; private = newPart w p }))))))
 
 -- ---- 4 end (8 while holding)
+abbrev pub over : Process → Process
+over p = changed p (p .regs) (p .slice) (p .class) (p .holds) (p .held) true
+
 unfoldable pub finish : Machine → Machine
-finish m =
-    let p : Process = proc m (m .running) in
-    withProcess (setRunning m nobody) (m .running) (changed p (p .regs) (p .slice) (p .class) (p .holds) (p .held) true)
+finish m = withProcess (setRunning m nobody) (m .running) (over (proc m (m .running)))
 
 unfoldable pub call4 : World → Called
 call4 w = if (ltb 0 ((caller w) .holds)) (stops 8) (on (same w (finish (popped w 0))))

@@ -48,7 +48,7 @@ fn headed(mut ready: [Queue; 3], c: u8) -> Selection
 fn class_over(i: u8, class: u8) -> u8
     ensures { λ r. ⌜ r ≡ if (ltb i 10) class 3 ⌝ }
 {
-    if i < 10 { class } else { 3 }
+    if i < Machine::NOBODY { class } else { 3 }
 }
 
 // What the selection makes of them where process i runs, of this class; where nobody runs, the class says nothing.
@@ -61,17 +61,17 @@ pub fn selected(ready: [Queue; 3], i: u8, class: u8) -> Selection
     if !now {
         return Selection { ready, running: i };
     }
-    if 10 <= i {
+    if Machine::NOBODY <= i {
         return headed(ready, best);
     }
     headed(joined(ready, class, i), best)
 }
 
 // The class of process i; one that is not there has class 0.
-pub fn class_of(processes: [Process; 10], i: u8) -> u8
+pub fn class_of(processes: [Process; Machine::PROCESSES as usize], i: u8) -> u8
     ensures { λ r. ⌜ r ≡ (getD processes i noProcess) .class ⌝ }
 {
-    if i < 10 {
+    if i < Machine::PROCESSES {
         let p = processes[i as usize];
         p.class
     } else {

@@ -26,11 +26,11 @@ impl Process {
         ensures { λ r. ⌜ r ≡ aged self ⌝ }
     {
         let slice = self.slice;
-        if 190 <= slice {
+        if Machine::LAST_UNITS <= slice {
             self.slice = 0;
             self.class = fallen(self.class);
         } else {
-            self.slice = slice + 10;
+            self.slice = slice + Machine::UNITS;
         }
         self
     }
@@ -46,7 +46,7 @@ fn yielded(ready: [Queue; 3], running: u8, h: u8, class: u8, over: bool) -> Sele
         let more = joined(ready, class, h);
         Selection {
             ready: more,
-            running: 10,
+            running: Machine::NOBODY,
         }
     } else {
         Selection { ready, running }
@@ -57,7 +57,7 @@ fn yielded(ready: [Queue; 3], running: u8, h: u8, class: u8, over: bool) -> Sele
 fn next_second(s: u16) -> u16
     ensures { λ r. ⌜ r ≡ nextSecond s ⌝ }
 {
-    if s < 32767 { s + 1 } else { 0 }
+    if s < Machine::LAST_SECOND { s + 1 } else { 0 }
 }
 
 // The ready queues, and who still waits.
@@ -67,7 +67,11 @@ struct Waking {
 }
 
 // All waiters wake, in order. On parts of the machine: handed on by value, all of it would be copied for each.
-fn woken(processes: [Process; 10], mut ready: [Queue; 3], mut waiters: Queue) -> Waking
+fn woken(
+    processes: [Process; Machine::PROCESSES as usize],
+    mut ready: [Queue; 3],
+    mut waiters: Queue,
+) -> Waking
     ensures { λ r. ⌜ r ≡ woken (waiters .len) processes (record { ready = ready; waiters = waiters }) ⌝ }
 {
     let n = waiters.len;
@@ -75,7 +79,7 @@ fn woken(processes: [Process; 10], mut ready: [Queue; 3], mut waiters: Queue) ->
         let h = waiters.at[0];
         waiters = waiters.rest();
         let mut class: u8 = 0;
-        if h < 10 {
+        if h < Machine::PROCESSES {
             let p = processes[h as usize];
             class = p.class;
         }
@@ -93,7 +97,7 @@ impl Machine {
         let q = self.clock;
         let more = q.pushed(self.running);
         self.clock = more;
-        self.running = 10;
+        self.running = Machine::NOBODY;
         self
     }
 
@@ -104,7 +108,7 @@ impl Machine {
         let q = self.bell;
         let more = q.pushed(self.running);
         self.bell = more;
-        self.running = 10;
+        self.running = Machine::NOBODY;
         self
     }
 
@@ -113,7 +117,7 @@ impl Machine {
         ensures { λ r. ⌜ r ≡ timePasses self ⌝ }
     {
         let fraction = self.fraction;
-        if 9990 <= fraction {
+        if Machine::LAST_FRACTION <= fraction {
             self.seconds = next_second(self.seconds);
             self.fraction = 0;
             let processes = self.processes;
@@ -124,7 +128,7 @@ impl Machine {
             self.ready = now;
             self.clock = rest;
         } else {
-            self.fraction = fraction + 10;
+            self.fraction = fraction + Machine::TICK;
         }
         self
     }
@@ -133,11 +137,11 @@ impl Machine {
     fn slice_passes(mut self, h: u8) -> Machine
         ensures { λ r. ⌜ r ≡ if (leb 10 h) self (slicePasses self h) ⌝ }
     {
-        if h < 10 {
+        if h < Machine::PROCESSES {
             let p = self.processes[h as usize];
             let older = p.aged();
             self.processes[h as usize] = older;
-            let over = 190 <= p.slice;
+            let over = Machine::LAST_UNITS <= p.slice;
             let ready = self.ready;
             let x = yielded(ready, self.running, h, older.class, over);
             let now = x.ready;

@@ -27,7 +27,7 @@ impl Process {
         ensures { λ r. ⌜ r ≡ entered self g ⌝ }
     {
         let n = self.holds;
-        if n < 8 {
+        if n < Machine::HELD {
             self.held[n as usize] = g;
             self.holds = n + 1;
             self.class = 0;
@@ -58,13 +58,17 @@ impl Gate {
         ensures { λ r. ⌜ r ≡ getD (self .cells) c 0 ⌝ }
     {
         let cells = self.cells;
-        if c <= 7 { cells[c as usize] } else { 0 }
+        if c <= Machine::LAST_CELL {
+            cells[c as usize]
+        } else {
+            0
+        }
     }
 
     fn seat(mut self, c: u8, x: u8) -> Gate
         ensures { λ r. ⌜ r ≡ record { holder = self .holder; queue = self .queue; cells = set (self .cells) c x } ⌝ }
     {
-        if c < 8 {
+        if c < Machine::CELLS {
             self.cells[c as usize] = x;
         }
         self
@@ -76,7 +80,7 @@ impl Gate {
     {
         let q = self.queue;
         if q.len == 0 {
-            self.holder = 10;
+            self.holder = Machine::NOBODY;
             return Handed {
                 gate: self,
                 passes: false,
@@ -97,10 +101,10 @@ impl Gate {
         ensures { λ r. ⌜ r ≡ resumed self c ⌝ }
     {
         let h = self.cell(c);
-        if 10 <= h {
+        if Machine::NOBODY <= h {
             return self.handed_on();
         }
-        let mut w = self.seat(c, 10);
+        let mut w = self.seat(c, Machine::NOBODY);
         w.holder = h;
         Handed {
             gate: w,
@@ -110,19 +114,19 @@ impl Gate {
 }
 
 // One that is not there has no waiter, and process 0 in each cell.
-fn gate_of(gates: [Gate; 25], g: u8) -> Gate
+fn gate_of(gates: [Gate; Machine::GATES as usize], g: u8) -> Gate
     ensures { λ r. ⌜ r ≡ if (ltb g 25) (getD gates g noGate) lostGate ⌝ }
 {
-    if g < 25 {
+    if g < Machine::GATES {
         gates[g as usize]
     } else {
         Gate {
             holder: 0,
             queue: Queue {
                 len: 0,
-                at: [0; 10],
+                at: [0; Machine::PROCESSES as usize],
             },
-            cells: [0; 8],
+            cells: [0; Machine::CELLS as usize],
         }
     }
 }
@@ -133,12 +137,12 @@ impl Machine {
     fn grant(mut self, g: u8, h: u8) -> Machine
         ensures { λ r. ⌜ r ≡ grant self g h ⌝ }
     {
-        if h < 10 {
+        if h < Machine::PROCESSES {
             let p = self.processes[h as usize];
             let more = p.entered(g);
             self.processes[h as usize] = more;
         }
-        if g < 25 {
+        if g < Machine::GATES {
             let mut w = self.gates[g as usize];
             w.holder = h;
             self.gates[g as usize] = w;
@@ -150,13 +154,13 @@ impl Machine {
     fn hand_over(mut self, g: u8, i: u8, x: Handed) -> Machine
         ensures { λ r. ⌜ r ≡ handOver self g i x ⌝ }
     {
-        if i < 10 {
+        if i < Machine::PROCESSES {
             let p = self.processes[i as usize];
             let fewer = p.given();
             self.processes[i as usize] = fewer;
         }
         let w = x.gate;
-        if g < 25 {
+        if g < Machine::GATES {
             self.gates[g as usize] = w;
         }
         if !x.passes {
@@ -164,7 +168,7 @@ impl Machine {
         }
         let h = w.holder;
         let mut class: u8 = 0;
-        if h < 10 {
+        if h < Machine::PROCESSES {
             let p = self.processes[h as usize];
             let more = p.entered(g);
             self.processes[h as usize] = more;
@@ -183,20 +187,20 @@ impl Machine {
     {
         let i = self.running;
         // a gate that is not there has a holder, 0: the caller waits
-        if 25 <= g {
-            self.running = 10;
+        if Machine::GATES <= g {
+            self.running = Machine::NOBODY;
             return self;
         }
         let mut w = self.gates[g as usize];
-        if w.holder < 10 {
+        if w.holder < Machine::NOBODY {
             let q = w.queue;
             let last = q.pushed(i);
             w.queue = last;
             self.gates[g as usize] = w;
-            self.running = 10;
+            self.running = Machine::NOBODY;
             return self;
         }
-        if i < 10 {
+        if i < Machine::PROCESSES {
             let p = self.processes[i as usize];
             let more = p.entered(g);
             self.processes[i as usize] = more;
@@ -221,7 +225,7 @@ impl Machine {
         ensures { λ r. ⌜ r ≡ delay self g c ⌝ }
     {
         let i = self.running;
-        self.running = 10;
+        self.running = Machine::NOBODY;
         let gates = self.gates;
         let w = gate_of(gates, g);
         self.hand_over(g, i, w.seat(c, i).handed_on())
@@ -243,7 +247,7 @@ impl Machine {
     {
         let g = self.made;
         let i = self.running;
-        self.made = one_more(g, 25);
+        self.made = one_more(g, Machine::GATES);
         self.grant(g, i)
     }
 }

@@ -16,14 +16,14 @@ ghost use Rattle.machine.specs.State.{started, fresh};
 // Processes in order: the first len of at.
 pub struct Queue {
     pub len: u8,
-    pub at: [u8; 10],
+    pub at: [u8; Machine::PROCESSES as usize],
 }
 
 // A gate is open where its holder is nobody.
 pub struct Gate {
     pub holder: u8,
     pub queue: Queue,
-    pub cells: [u8; 8],
+    pub cells: [u8; Machine::CELLS as usize],
 }
 
 // The registers of the virtual code, with a job's: reason 0 says that no stop is pending.
@@ -48,7 +48,7 @@ pub struct Process {
     pub slice: u8,
     pub class: u8,
     pub holds: u8,
-    pub held: [u8; 8],
+    pub held: [u8; Machine::HELD as usize],
     pub ended: bool,
 }
 
@@ -61,8 +61,8 @@ pub struct Device {
 
 // Nobody runs, holds, sits or waits where the number is 10; the machine is stopped unless stop is 10.
 pub struct Machine {
-    pub processes: [Process; 10],
-    pub gates: [Gate; 25],
+    pub processes: [Process; Machine::PROCESSES as usize],
+    pub gates: [Gate; Machine::GATES as usize],
     pub ready: [Queue; 3],
     pub clock: Queue,
     pub bell: Queue,
@@ -87,9 +87,9 @@ impl Process {
         let regs = Regs {
             address,
             line: 0,
-            s: 4096,
-            b: 4096,
-            c: 4096,
+            s: Machine::CEILING,
+            b: Machine::CEILING,
+            c: Machine::CEILING,
             in_job: false,
             saved_s: 0,
             saved_b: 0,
@@ -103,7 +103,7 @@ impl Process {
             slice: 0,
             class: 2,
             holds: 0,
-            held: [0; 8],
+            held: [0; Machine::HELD as usize],
             ended: false,
         }
     }
@@ -116,9 +116,34 @@ impl Machine {
 
     pub const CELLS: u8 = 8;
 
+    pub const LAST_CELL: u8 = Machine::CELLS - 1;
+
     pub const HELD: u8 = 8;
 
+    // Who waits at a gate has room for one more.
+    pub const LAST_HELD: u8 = Machine::HELD - 1;
+
+    // A tick is 10 units; a slice ends at 200, so that 190 is its last multiple.
+    pub const UNITS: u8 = 10;
+
     pub const SLICE: u8 = 200;
+
+    pub const LAST_UNITS: u8 = Machine::SLICE - Machine::UNITS;
+
+    // The same as a word; a second has 10,000 units, and 32,767 is the last second.
+    pub const TICK: u16 = Machine::UNITS as u16;
+
+    pub const LAST_FRACTION: u16 = 10000 - Machine::TICK;
+
+    pub const LAST_SECOND: u16 = 32767;
+
+    // A process's number that is popped is a word.
+    pub const NO_PROCESS: u16 = Machine::PROCESSES as u16;
+
+    // The reasons of a stop.
+    pub const FIRST_REASON: u16 = 16;
+
+    pub const LAST_REASON: u16 = 255;
 
     pub const NOBODY: u8 = 10;
 
@@ -128,30 +153,45 @@ impl Machine {
 
     pub const PRIVATE: usize = 20480;
 
+    // Each process's own part of it.
+    pub const PART: usize = 2048;
+
+    // An address from this one on is in the running process's own part of the private store; and the one past it.
+    pub const OWN: u16 = 2048;
+
+    pub const CEILING: u16 = 4096;
+
+    // The same, where it is reckoned beyond a word.
+    pub const OWN_AT: usize = Machine::OWN as usize;
+
+    pub const CEILING_AT: usize = Machine::CEILING as usize;
+
+    pub const MOST_CODE: usize = Header::MOST_LENGTH as usize;
+
     // The machine after loading: process 0 runs, and nothing else is there.
     pub fn fresh(header: Header) -> Machine
         ensures { λ r. ⌜ r ≡ fresh header ⌝ }
     {
         let none = Queue {
             len: 0,
-            at: [0; 10],
+            at: [0; Machine::PROCESSES as usize],
         };
         let open = Gate {
-            holder: 10,
+            holder: Machine::NOBODY,
             queue: none,
-            cells: [10; 8],
+            cells: [Machine::NOBODY; Machine::CELLS as usize],
         };
         let idle = Device {
-            process: 10,
+            process: Machine::NOBODY,
             operation: 0,
             address: 0,
         };
         let unused = Process::started(0, 0);
-        let mut processes = [unused; 10];
+        let mut processes = [unused; Machine::PROCESSES as usize];
         processes[0] = Process::started(0, header.variables);
         Machine {
             processes,
-            gates: [open; 25],
+            gates: [open; Machine::GATES as usize],
             ready: [none; 3],
             clock: none,
             bell: none,
@@ -159,7 +199,7 @@ impl Machine {
             running: 0,
             created: 1,
             made: 0,
-            stop: 10,
+            stop: Machine::GOING,
             line: 0,
             seconds: 0,
             fraction: 0,

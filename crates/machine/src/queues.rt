@@ -2,6 +2,7 @@
 ghost use mathlib.Core.Path.{_≡_};
 ghost use Prim.Native.Nat.{_-_};
 ghost use Rattle.machine.specs.Queue.{pushed, rest};
+use crate::Machine;
 use crate::Queue;
 
 // One less, but never below 0.
@@ -17,7 +18,7 @@ impl Queue {
         ensures { λ r. ⌜ r ≡ pushed self x ⌝ }
     {
         let n = self.len;
-        if n < 10 {
+        if n < Machine::PROCESSES {
             self.at[n as usize] = x;
             self.len = n + 1;
         }

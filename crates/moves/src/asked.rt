@@ -5,6 +5,7 @@ ghost use Rattle.machine.specs.declared.Machine.{Machine};
 ghost use Rattle.machine.specs.State.{proc, noProcess, noGate};
 ghost use Rattle.machine.specs.Gate.{latest, mayEnter, mayLeave, mayContinue, mayDelay};
 use machine::Gate;
+use machine::Machine;
 use machine::Process;
 
 // The latest gate entered; of none the first of the list, of a list too long 0.
@@ -15,17 +16,17 @@ fn latest(p: Process) -> u8
     let held = p.held;
     if n == 0 {
         held[0]
-    } else if n <= 8 {
+    } else if n <= Machine::HELD {
         held[(n - 1) as usize]
     } else {
         0
     }
 }
 
-pub(crate) fn holds_of(processes: [Process; 10], h: u8) -> u8
+pub(crate) fn holds_of(processes: [Process; Machine::PROCESSES as usize], h: u8) -> u8
     ensures { λ r. ⌜ r ≡ (getD processes h noProcess) .holds ⌝ }
 {
-    if h < 10 {
+    if h < Machine::PROCESSES {
         let p = processes[h as usize];
         p.holds
     } else {
@@ -33,10 +34,10 @@ pub(crate) fn holds_of(processes: [Process; 10], h: u8) -> u8
     }
 }
 
-fn holder_of(gates: [Gate; 25], g: u8) -> u8
+fn holder_of(gates: [Gate; Machine::GATES as usize], g: u8) -> u8
     ensures { λ r. ⌜ r ≡ (getD gates g noGate) .holder ⌝ }
 {
-    if g < 25 {
+    if g < Machine::GATES {
         let w = gates[g as usize];
         w.holder
     } else {
@@ -44,10 +45,10 @@ fn holder_of(gates: [Gate; 25], g: u8) -> u8
     }
 }
 
-fn cell_of(gates: [Gate; 25], g: u8, c: u8) -> u8
+fn cell_of(gates: [Gate; Machine::GATES as usize], g: u8, c: u8) -> u8
     ensures { λ r. ⌜ r ≡ getD ((getD gates g noGate) .cells) c 0 ⌝ }
 {
-    if g < 25 {
+    if g < Machine::GATES {
         let w = gates[g as usize];
         w.cell(c)
     } else {
@@ -57,11 +58,11 @@ fn cell_of(gates: [Gate; 25], g: u8, c: u8) -> u8
 
 // The caller's record is asked, with the parts of the machine that it needs: who asks keeps no copy of the machine.
 // A gate there is, not held by the caller, which is process i and has room for one more.
-pub fn may_enter(p: Process, i: u8, gates: [Gate; 25], made: u8, g: u8) -> bool
+pub fn may_enter(p: Process, i: u8, gates: [Gate; Machine::GATES as usize], made: u8, g: u8) -> bool
     ensures { λ r. ⌜ ((m : Machine) → m .running ≡ i → proc m (m .running) ≡ p → m .gates ≡ gates → m .made ≡ made → r ≡ mayEnter m g) ⌝ }
 {
     let holder = holder_of(gates, g);
-    (g < made) & !(holder == i) & (p.holds < 8)
+    (g < made) & !(holder == i) & (p.holds < Machine::HELD)
 }
 
 // A gate there is, and the latest that the caller entered.
@@ -76,13 +77,13 @@ pub fn may_continue(p: Process, made: u8, g: u8, c: u8) -> bool
     ensures { λ r. ⌜ ((m : Machine) → proc m (m .running) ≡ p → m .made ≡ made → r ≡ mayContinue m g c) ⌝ }
 {
     let may = may_leave(p, made, g);
-    may & (c <= 7)
+    may & (c <= Machine::LAST_CELL)
 }
 
-pub fn may_delay(p: Process, gates: [Gate; 25], made: u8, g: u8, c: u8) -> bool
+pub fn may_delay(p: Process, gates: [Gate; Machine::GATES as usize], made: u8, g: u8, c: u8) -> bool
     ensures { λ r. ⌜ ((m : Machine) → proc m (m .running) ≡ p → m .gates ≡ gates → m .made ≡ made → r ≡ mayDelay m g c) ⌝ }
 {
     let x = cell_of(gates, g, c);
     let may = may_continue(p, made, g, c);
-    may & (10 <= x)
+    may & (Machine::NOBODY <= x)
 }

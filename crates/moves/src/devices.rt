@@ -45,7 +45,7 @@ fn with_device(mut m: Machine, d: u8, x: Device) -> Machine
 fn set_class(mut m: Machine, h: u8, c: u8) -> Machine
     ensures { λ r. ⌜ r ≡ setClass m h c ⌝ }
 {
-    if h < 10 {
+    if h < Machine::PROCESSES {
         let mut p = m.processes[h as usize];
         p.class = c;
         m.processes[h as usize] = p;
@@ -62,7 +62,7 @@ pub fn device_start(m: Machine, d: u8, operation: u8, address: u16) -> Machine
         operation,
         address,
     };
-    with_device(set_running(m, 10), d, x)
+    with_device(set_running(m, Machine::NOBODY), d, x)
 }
 
 // Class 1 after a device ends, but 0 while holding a gate; the process wakes.
@@ -75,7 +75,7 @@ pub fn device_end(m: Machine, d: u8) -> Machine
     let holds = holds_of(processes, h);
     let class = class_after(holds);
     let free = Device {
-        process: 10,
+        process: Machine::NOBODY,
         operation: x.operation,
         address: x.address,
     };

@@ -1,6 +1,6 @@
 // Processes: a new one, the end of one, a stop for a job.
 ghost use mathlib.Core.Path.{_≡_};
-ghost use mathlib.Core.Bool.{true, _||_, not};
+ghost use mathlib.Core.Bool.{_||_, not};
 ghost use Prim.Native.Nat.{_<_};
 ghost use lib.Dec.{eqb, ltb};
 ghost use lib.ListN.{set};
@@ -8,7 +8,7 @@ ghost use Rattle.notation.specs.If.{if};
 ghost use Rattle.machine.specs.declared.Machine.{Machine};
 ghost use Rattle.machine.specs.State.{proc, withProcess};
 ghost use Rattle.machine.specs.Classes.{push, setRunning, someReady};
-ghost use Rattle.machine.specs.Call.{born, createProcess, finish, stopAnswer, stopJob};
+ghost use Rattle.machine.specs.Call.{born, createProcess, over, finish, stopAnswer, stopJob};
 use crate::ready::push;
 use crate::ready::set_running;
 use crate::ready::wake;
@@ -28,7 +28,7 @@ fn born(mut m: Machine, t: u16, v: u16) -> Machine
     ensures { λ r. ⌜ r ≡ born m t v ⌝ }
 {
     let child = m.created;
-    if child < 10 {
+    if child < Machine::PROCESSES {
         let p = Process::started(t, v);
         m.processes[child as usize] = p;
         m.created = child + 1;
@@ -44,7 +44,7 @@ fn place_child(m: Machine, child: u8) -> Machine
     let second = m.ready[1];
     let waits = (0 < first.len) | (0 < second.len);
     if waits {
-        if child < 10 {
+        if child < Machine::PROCESSES {
             push(m, 2, child)
         } else {
             push(m, 0, child)
@@ -61,7 +61,7 @@ pub fn create_process(m: Machine, t: u16, v: u16) -> Machine
 {
     let parent = m.running;
     let child = m.created;
-    let placed = place_child(wake(set_running(m, 10), parent), child);
+    let placed = place_child(wake(set_running(m, Machine::NOBODY), parent), child);
     born(placed, t, v)
 }
 
@@ -70,13 +70,13 @@ pub fn finish(m: Machine) -> Machine
     ensures { λ r. ⌜ r ≡ finish m ⌝ }
 {
     let i = m.running;
-    set_ended(set_running(m, 10), i)
+    set_ended(set_running(m, Machine::NOBODY), i)
 }
 
 fn set_ended(mut m: Machine, h: u8) -> Machine
-    ensures { λ r. ⌜ r ≡ withProcess m h (record { regs = (proc m h) .regs; variables = (proc m h) .variables; slice = (proc m h) .slice; class = (proc m h) .class; holds = (proc m h) .holds; held = (proc m h) .held; ended = true }) ⌝ }
+    ensures { λ r. ⌜ r ≡ withProcess m h (over (proc m h)) ⌝ }
 {
-    if h < 10 {
+    if h < Machine::PROCESSES {
         let mut p = m.processes[h as usize];
         p.ended = true;
         m.processes[h as usize] = p;
@@ -90,7 +90,7 @@ pub fn stop_job(mut m: Machine, q: u16, reason: u16) -> Machine
     ensures { λ r. ⌜ r ≡ stopJob m q reason ⌝ }
 {
     // of a process that is not there nothing changes
-    let there = (q < wide(m.created)) & (q < 10);
+    let there = (q < wide(m.created)) & (q < Machine::NO_PROCESS);
     if there {
         let mut p = m.processes[q as usize];
         let mut regs = p.regs;
@@ -106,7 +106,7 @@ pub fn stop_job(mut m: Machine, q: u16, reason: u16) -> Machine
 
 // 0, or why the job cannot be stopped; p is the record of process i, whatever stands there.
 pub fn stop_answer(
-    processes: [Process; 10],
+    processes: [Process; Machine::PROCESSES as usize],
     i: u8,
     p: Process,
     created: u8,
@@ -118,7 +118,7 @@ pub fn stop_answer(
     if wide(created) <= q {
         return 1;
     }
-    if 10 <= q {
+    if Machine::NO_PROCESS <= q {
         return 2;
     }
     if q == wide(i) {
@@ -135,7 +135,7 @@ fn answer_of(r: Regs, reason: u16) -> u16
     if !r.in_job {
         return 2;
     }
-    let outside = (reason < 16) | (255 < reason);
+    let outside = (reason < Machine::FIRST_REASON) | (Machine::LAST_REASON < reason);
     if outside {
         return 3;
     }

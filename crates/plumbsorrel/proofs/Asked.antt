@@ -9,7 +9,9 @@ use lib.ListN.{length, getD, set, take, drop, length-take, length-drop}
 use borrow.Author.Tests.{ltb-true, ltb-false, lt-ltb, le-ltb, eqb-true, not-false}
 use Rattle.notation.proofs.Upto.{split, both, neither, below?}
 use Rattle.image.specs.declared.table.Refusal.{Refusal}
-use Rattle.image.specs.Refusal.{Reply, taken, refused, numberOf, named, refusedBy, _then_}
+use Rattle.image.specs.declared.table.Check.{Check}
+use Rattle.image.specs.declared.table.Check.the-variants.{Passed, Failed}
+use Rattle.image.specs.Refusal.{Reply, taken, refused, _then_, checkSays}
 use Rattle.image.specs.Read.{refuse, refusal10}
 use Rattle.image.proofs.Laws.{passed, both-taken, size-fits}
 use Rattle.machine.specs.declared.Machine.{Machine}
@@ -22,42 +24,15 @@ use Rattle.promises.specs.SoundKept.{Shaped}
 use Rattle.promises.proofs.Tested.{tested}
 use Rattle.plumbsorrel.proofs.Chain.{chain-cases, by-test}
 use Rattle.plumbsorrel.proofs.Laws.{same-known, machine-is}
-use Rattle.plumbsorrel.specs.Number.{replyNumber}
-use Rattle.plumbsorrel.specs.Record.{recordChecks, recordAfter}
+use Rattle.plumbsorrel.specs.Number.{replyNumber, blockNamed}
+use Rattle.plumbsorrel.specs.Record.{asksRecord, recordChecks, recordLeaves, cRecord}
 use Rattle.layout.specs.declared.Unpacked.{Unpacked}
 use Rattle.layout.specs.Layout.{unpacked, fits, unpackedIf}
 use Rattle.layout.proofs.Typed.{unpacked-typed}
-use Rattle.run.specs.declared.answer.Check.{Check}
-use Rattle.run.specs.declared.answer.Check.the-variants.{Passed, Failed}
-use Rattle.run.specs.Said.{checkSays}
 use Rattle.kernel.specs.Did.{world, handedBack}
 use Rattle.kernel.proofs.Records.{whole-high, whole-low}
 
 -- ---- the checks, one after the other
-abbrev pub chain : Bool → Bool → ℕ → Bool → ℕ → Reply
-chain stores good d busy room = refuse 6 (not stores) then refuse 7 (not good) then refuse 9 (ltb 4 d || not busy) then refusal10 room 4
-
-module _ (stores good : Bool) (d : ℕ) (busy : Bool) (room : ℕ) where
-  pub is-lent : stores ≡ false → refused 6 [] ≡ chain stores good d busy room
-  is-lent e = rw e
-
-  pub is-unsound : stores ≡ true → good ≡ false → refused 7 [] ≡ chain stores good d busy room
-  is-unsound e f = rw (e, f)
-
-  pub is-none : stores ≡ true → good ≡ true → 4 < d → refused 9 [] ≡ chain stores good d busy room
-  is-none e f g = rw (e, f, lt-ltb 4 d g)
-
-  pub is-free : stores ≡ true → good ≡ true → d ≤ 4 → busy ≡ false → refused 9 [] ≡ chain stores good d busy room
-  is-free e f g h = rw (e, f, le-ltb 4 d g, h)
-
-  pub is-short : stores ≡ true → good ≡ true → d ≤ 4 → busy ≡ true → room < 4 → refused 10 [] ≡ chain stores good d busy room
-  unfolding refusal10
-  is-short e f g h k = rw (e, f, le-ltb 4 d g, h, lt-ltb room 4 k)
-
-  pub is-passed : stores ≡ true → good ≡ true → d ≤ 4 → busy ≡ true → 4 ≤ room → taken [] ≡ chain stores good d busy room
-  unfolding refusal10
-  is-passed e f g h k = rw (e, f, le-ltb 4 d g, h, le-ltb room 4 k)
-
 -- what is known where none refuses
 pub record Asked (s g : Bool) (d : ℕ) (b : Bool) (n : ℕ) : Type 0 where
   pub stores : s ≡ true
@@ -66,7 +41,7 @@ pub record Asked (s g : Bool) (d : ℕ) (b : Bool) (n : ℕ) : Type 0 where
   pub busy : b ≡ true
   pub room : 4 ≤ n
 
-pub asked : (stores good : Bool) (d : ℕ) (busy : Bool) (room : ℕ) → taken [] ≡ chain stores good d busy room → Asked stores good d busy room
+pub asked : (stores good : Bool) (d : ℕ) (busy : Bool) (room : ℕ) → taken [] ≡ asksRecord stores good d busy room → Asked stores good d busy room
 asked stores good d busy room e =
     let a = both-taken [] (refuse 6 (not stores)) (refuse 7 (not good) then refuse 9 (ltb 4 d || not busy) then refusal10 room 4) e in
     let b = both-taken [] (refuse 7 (not good)) (refuse 9 (ltb 4 d || not busy) then refusal10 room 4) (a .1) in
@@ -81,7 +56,7 @@ asked stores good d busy room e =
     }
 
 -- a refusal of these checks names no block
-pub names-none : (stores good : Bool) (d : ℕ) (busy : Bool) (room k : ℕ) (vs : List ℕ) → refused k vs ≡ chain stores good d busy room → getD vs 0 0 ≡ 0
+pub names-none : (stores good : Bool) (d : ℕ) (busy : Bool) (room k : ℕ) (vs : List ℕ) → refused k vs ≡ asksRecord stores good d busy room → getD vs 0 0 ≡ 0
 unfolding refusal10
 names-none stores good d busy room k vs e =
     chain-cases (refuse 6 (not stores)) _ k vs e (λ h. (by-test 6 (not stores) k vs h) .1)
@@ -134,7 +109,7 @@ copied (a ∷ b ∷ c ∷ d ∷ []) (x ∷ y ∷ z ∷ []) e l = absurd (omega a
 
 -- ---- the whole call, on the state's words
 module _ (d : ℕ) (common private state out : List ℕ) (u : Unpacked) (e : u ≡ unpackedIf state) (check : Check)
-    (h : checkSays check ≡ chain (storesFit common private) (u .known && sound (u .machine)) d (isBusy (u .machine) d) (length out)) where
+    (h : checkSays check ≡ asksRecord (storesFit common private) (u .known && sound (u .machine)) d (isBusy (u .machine) d) (length out)) where
   -- the checks of the code are those of the definition: where the words are no machine's, 7 comes before the device is looked at
   same-checks : checkSays check ≡ recordChecks d common private state (length out)
   unfolding recordChecks
@@ -144,16 +119,20 @@ module _ (d : ℕ) (common private state out : List ℕ) (u : Unpacked) (e : u �
       (λ t. rw (same-known state u e, t, machine-is state u e t))
       (λ t. rw (same-known state u e, t) (unread (storesFit common private)))
     where
-      unread : (b : Bool) → chain b false d (isBusy (u .machine) d) (length out) ≡ chain b false d (isBusy (unpacked state) d) (length out)
+      unread : (b : Bool) → asksRecord b false d (isBusy (u .machine) d) (length out) ≡ asksRecord b false d (isBusy (unpacked state) d) (length out)
       unread true = refl
       unread false = refl
 
-  pub refusal-names : (r : Refusal) → check ≡ Failed r → getD (named r) 0 0 ≡ 0
-  refusal-names r t =
-      names-none (storesFit common private) (u .known && sound (u .machine)) d (isBusy (u .machine) d) (length out) (numberOf r) (named r) (rw t at h)
+  pub record-little : blockNamed (checkSays check) < 36028797018963968
+  record-little = go (checkSays check) h
+    where
+      go : (r : Reply) → r ≡ asksRecord (storesFit common private) (u .known && sound (u .machine)) d (isBusy (u .machine) d) (length out) → blockNamed r < 36028797018963968
+      go (taken vs) e = omega arith
+      go (refused k vs) e =
+          omega (arith, names-none (storesFit common private) (u .known && sound (u .machine)) d (isBusy (u .machine) d) (length out) k vs e)
 
-  pub refusal-leaves : (r : Refusal) → check ≡ Failed r → (replyNumber (refusedBy r) ≡ replyNumber (recordChecks d common private state (length out))) × (out ≡ recordAfter d common private state out)
-  refusal-leaves r t = rw (← same-checks, t) (refl, refl)
+  pub refusal-leaves : (r : Refusal) → check ≡ Failed r → recordLeaves (replyNumber (checkSays check)) out ≡ cRecord d common private state out
+  refusal-leaves r t = rw (← same-checks, t)
 
   module _ (t : check ≡ Passed) where
     pub record-asked : Asked (storesFit common private) (u .known && sound (u .machine)) d (isBusy (u .machine) d) (length out)
@@ -176,5 +155,5 @@ module _ (d : ℕ) (common private state out : List ℕ) (u : Unpacked) (e : u �
       pub may-copy : (length words ≡ 4) × (4 ≤ length out)
       may-copy = (ap length is-record ∙ four (u .machine) d common private (length out) asked-machine shaped, record-asked .room)
 
-      pub copy-leaves : (out′ : List ℕ) → out′ ≡ words ++ drop 4 out → (0 ≡ replyNumber (recordChecks d common private state (length out))) × (out′ ≡ recordAfter d common private state out)
-      copy-leaves out′ c = rw (← same-checks, t, c, is-record, machine-is state u e (is-machine .0)) (refl, refl)
+      pub copy-leaves : (out′ : List ℕ) → out′ ≡ words ++ drop 4 out → recordLeaves 0 out′ ≡ cRecord d common private state out
+      copy-leaves out′ c = rw (← same-checks, t, c, is-record, machine-is state u e (is-machine .0))

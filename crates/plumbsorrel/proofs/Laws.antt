@@ -1,15 +1,20 @@
 -- What a call leaves: on words that are a machine's, and on words that are none's
 use mathlib.Core.Path.{_≡_, refl, sym, ap, _∙_}
 use mathlib.Core.Bool.{Bool, true, false, not, _&&_}
-use mathlib.Core.List.{List}
-use Prim.Native.Nat.{ℕ}
+use mathlib.Core.List.{List, []}
+use Prim.Native.Nat.{ℕ, _<_}
+use native.Mathlib.Omega.{arith}
 use lib.Dec.{eqb}
 use lib.ListN.{length}
 use borrow.Author.Tests.{eq-eqb, not-true, not-false}
 use Rattle.notation.specs.If.{if}
 use Rattle.notation.proofs.Upto.{split}
-use Rattle.image.specs.Refusal.{Reply, _then_}
+use Rattle.image.specs.declared.table.Refusal.{Refusal}
+use Rattle.image.specs.declared.table.Check.{Check}
+use Rattle.image.specs.declared.table.Check.the-variants.{Passed, Failed}
+use Rattle.image.specs.Refusal.{checkSays}
 use Rattle.image.specs.Read.{refuse}
+use Rattle.image.proofs.Laws.{passed}
 use Rattle.machine.specs.declared.Machine.{Machine}
 use Rattle.machine.specs.Store.{World}
 use Rattle.machine.specs.Sound.{sound}
@@ -20,8 +25,9 @@ use Rattle.layout.proofs.Laws.{fitting}
 use Rattle.layout.proofs.Inverse.{packed-unpacked}
 use Rattle.run.specs.declared.answer.Offered.{Offered as Given}
 use Rattle.run.specs.Said.{world, Outcome, given, outcome, answerOf}
-use Rattle.plumbsorrel.specs.Number.{answerNumber, replyNumber}
+use Rattle.plumbsorrel.specs.Number.{answerNumber, replyNumber, blockNamed}
 use Rattle.plumbsorrel.specs.Offers.{leaves, left, crossed, wordsSound}
+use Rattle.plumbsorrel.proofs.Chain.{different}
 
 -- ---- what the words say
 module _ (ws : List ℕ) (u : Unpacked) (e : u ≡ unpackedIf ws) where
@@ -53,31 +59,40 @@ leaves-left state common private c q x m (did s) r p e h =
 leaves-left state common private c q x m (refuses k) r p e h =
     rw (h, ap (λ (y : Outcome). y .answered) e, ap (λ (y : Outcome). y .world .machine) e, ap (λ (y : Outcome). y .world .common) e, ap (λ (y : Outcome). y .world .private) e, p)
 
-module _ (state common private : List ℕ) (lent : Reply) (offer : World → Offered) (u : Unpacked) (e : u ≡ unpackedIf state) where
-  pub answered :
-      not (u .known) ≡ false → (x : Given) (c q : List ℕ) →
-      given x c q ≡ outcome (world (u .machine) common private) (offer (world (u .machine) common private)) →
-      (r : ℕ) (new : List ℕ) → (r ≡ answerNumber (answerOf (x .reply)) (x .count)) × (new ≡ if (eqb (length state) 820) (packed (x .machine)) state) →
-      leaves r new c q ≡ crossed state common private lent offer
-  answered k x c q g r new z =
-      let t : fits state ≡ true = sym (same-known state u e) ∙ not-false _ k in
-      let l : eqb (length state) 820 ≡ true = eq-eqb (length state) 820 ((fitting state t) .long) in
-      let n : new ≡ packed (x .machine) = rw l at (z .1) in
-      let g′ : given x c q ≡ outcome (world (unpacked state) common private) (offer (world (unpacked state) common private)) = rw (machine-is state u e t) at g in
-      rw (n, t) (leaves-left state common private c q x (unpacked state) (offer (world (unpacked state) common private)) r (packed-unpacked state t) g′ (z .0))
+-- ---- a check of a row that names nothing: its number fits, and where it refuses it is the call's
+pub little : (n : ℕ) (bad : Bool) (k : Check) → checkSays k ≡ refuse n bad → blockNamed (checkSays k) < 36028797018963968
+little n true k e = rw e (omega arith)
+little n false k e = rw e (omega arith)
 
-  pub no-machine : not (u .known) ≡ true → (r : ℕ) → r ≡ replyNumber (lent then refuse 7 true) → leaves r state common private ≡ crossed state common private lent offer
-  no-machine k r h =
-      let t : fits state ≡ false = sym (same-known state u e) ∙ not-true _ k in
-      rw (t, h)
+failed : (n : ℕ) (bad : Bool) (k : Check) → checkSays k ≡ refuse n bad → (x : Refusal) → k ≡ Failed x → bad ≡ true
+failed n true k e x t = refl
+failed n false k e x t = different [] _ _ (sym (rw t at e))
 
--- ---- 6 by the code, else by the stores
-pub code-fails : (stores code : Bool) → code ≡ false → 6 ≡ replyNumber (refuse 6 (not (stores && code)) then refuse 7 true)
-code-fails true code e = rw e
-code-fails false code e = refl
+pub passed-row : (n : ℕ) (bad : Bool) (k : Check) → checkSays k ≡ refuse n bad → k ≡ Passed → bad ≡ false
+passed-row n bad k e t = passed n bad [] (rw t at e)
 
-pub code-passes :
-    (stores code : Bool) (r : ℕ) → code ≡ true → r ≡ replyNumber (refuse 6 (not stores) then refuse 7 true) →
-    r ≡ replyNumber (refuse 6 (not (stores && code)) then refuse 7 true)
-code-passes true code r e h = rw e h
-code-passes false code r e h = h
+module _ (state common private : List ℕ) (bad : Bool) (offer : World → Offered) where
+  -- 6, for what is lent
+  pub lent-refuses : (k : Check) → checkSays k ≡ refuse 6 bad → (x : Refusal) → k ≡ Failed x → leaves (replyNumber (checkSays k)) state common private ≡ crossed state common private (refuse 6 bad) offer
+  lent-refuses k e x t = let z = failed 6 bad k e x t in rw (e, z)
+
+  module _ (u : Unpacked) (e : u ≡ unpackedIf state) (fit : bad ≡ false) (k : Check) (says : checkSays k ≡ refuse 7 (not (u .known))) where
+    -- 7, for words that no machine packs to
+    pub unknown-refuses : (x : Refusal) → k ≡ Failed x → leaves (replyNumber (checkSays k)) state common private ≡ crossed state common private (refuse 6 bad) offer
+    unknown-refuses x t =
+        let z : not (u .known) ≡ true = failed 7 (not (u .known)) k says x t in
+        let f : fits state ≡ false = sym (same-known state u e) ∙ not-true _ z in
+        rw (says, z, fit, f)
+
+    pub answered :
+        k ≡ Passed → (x : Given) (c q : List ℕ) →
+        given x c q ≡ outcome (world (u .machine) common private) (offer (world (u .machine) common private)) →
+        (r : ℕ) (new : List ℕ) → (r ≡ answerNumber (answerOf (x .reply)) (x .count)) × (new ≡ if (eqb (length state) 820) (packed (x .machine)) state) →
+        leaves r new c q ≡ crossed state common private (refuse 6 bad) offer
+    answered t x c q g r new z =
+        let known = not-false (u .known) (passed-row 7 (not (u .known)) k says t) in
+        let f : fits state ≡ true = sym (same-known state u e) ∙ known in
+        let l : eqb (length state) 820 ≡ true = eq-eqb (length state) 820 ((fitting state f) .long) in
+        let n : new ≡ packed (x .machine) = rw l at (z .1) in
+        let g′ : given x c q ≡ outcome (world (unpacked state) common private) (offer (world (unpacked state) common private)) = rw (machine-is state u e f) at g in
+        rw (n, fit, f) (leaves-left state common private c q x (unpacked state) (offer (world (unpacked state) common private)) r (packed-unpacked state f) g′ (z .0))

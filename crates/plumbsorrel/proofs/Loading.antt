@@ -1,36 +1,39 @@
 -- The numbers of loading and writing
-use mathlib.Core.Path.{_≡_, refl, sym, _∙_}
+use mathlib.Core.Path.{_≡_, refl, sym, ap, _∙_}
 use mathlib.Core.Bool.{Bool, true, false, not, _&&_, _||_}
-use mathlib.Core.List.{List, [], _∷_}
+use mathlib.Core.List.{List, [], _∷_, _++_}
 use Prim.Native.Nat.{ℕ, _+_, _-_, _*_, _/_, _%_, _≤_, _<_}
 use native.Mathlib.Omega.{arith}
-use lib.Dec.{ltb, leb, eqb}
-use lib.ListN.{length, getD}
-use borrow.Author.Tests.{ltb-true, le-leb, lt-leb}
+use lib.Dec.{ltb, eqb}
+use lib.ListN.{length, getD, take, drop, replicate}
+use lib.Seq.{length-take-le}
+use borrow.Author.Tests.{ltb-true, eq-eqb}
 use Rattle.notation.specs.If.{if}
-use Rattle.notation.specs.Upto.{allTo}
+use Rattle.notation.specs.Upto.{allTo, laid}
 use Rattle.image.specs.declared.head.Header.{Header}
 use Rattle.image.specs.declared.table.Refusal.{Refusal}
+use Rattle.image.specs.declared.table.Check.{Check}
+use Rattle.image.specs.declared.table.Check.the-variants.{Passed, Failed}
 use Rattle.image.specs.declared.reader.Reading.{Reading}
 use Rattle.image.specs.declared.reader.Reading.the-variants.{Accepted, Refused}
-use Rattle.image.specs.Refusal.{Reply, taken, refused, _then_, numberOf, named, refusedBy}
+use Rattle.image.specs.Refusal.{Reply, taken, refused, _then_, numberOf, named, refusedBy, checkSays}
 use Rattle.image.specs.Block.{wordAt, blocks}
 use Rattle.image.specs.Header.{fields, goodHeader, headerOf, restZero, codeBlocks}
-use Rattle.image.specs.Read.{refuse, refusal1, refusal2, refusal3, refusal4, refusal5, refusal10, firstBad, checks, codeAt, reading, readSays}
+use Rattle.image.specs.Read.{refuse, refusal1, refusal2, refusal3, refusal4, refusal5, refusal10, firstBad, imageRows, checks, codeAt, readSays}
 use Rattle.image.specs.Write.{imageLength, writeChecks, writing}
-use Rattle.image.proofs.Laws.{both-taken}
+use Rattle.image.proofs.Laws.{both-taken, rows-then, through-all}
 use Rattle.machine.specs.declared.Machine.{Machine}
+use Rattle.machine.specs.State.{fresh}
 use Rattle.machine.specs.Store.{World}
 use Rattle.machine.specs.Offer.{storesFit}
-use Rattle.machine.specs.Load.{Loading, loaded, unloaded, loadedBy, loadChecks, loads, commonAfter, privateAfter, bufferAfter}
+use Rattle.machine.specs.Load.{Loading, loaded, loadedBy, loads}
 use Rattle.layout.specs.Layout.{packed}
-use Rattle.run.specs.declared.answer.Check.{Check}
-use Rattle.run.specs.declared.answer.Check.the-variants.{Passed, Failed}
-use Rattle.run.specs.Said.{world}
-use Rattle.run.specs.Loaded.{loadedIf}
-use Rattle.plumbsorrel.specs.Number.{replyNumber}
+use Rattle.run.specs.Loaded.{SetUp, setUp, afterSetUp, LoadOutcome, loadLeft as loadOf}
+use Rattle.run.proofs.Loads.{load-taken}
+use Rattle.plumbsorrel.specs.Number.{replyNumber, loadNumber, values, blockNamed}
+use Rattle.plumbsorrel.specs.Image.{loadLeaves, cLoad}
 use Rattle.plumbsorrel.proofs.Chain.{different, chain-cases, by-test}
-use Rattle.plumbsorrel.specs.Image.{loadLeaves, loadLeft, cLoad}
+use Rattle.plumbsorrel.proofs.Laws.{little}
 
 -- the block that 2 names is one of the image's
 by-block : (bytes : List ℕ) (k : ℕ) (vs : List ℕ) → refused k vs ≡ refusal2 bytes → (k ≡ 2) × (getD vs 0 0 ≤ blocks bytes)
@@ -43,24 +46,11 @@ by-block bytes k vs e = go (ltb (firstBad bytes) (blocks bytes)) refl e
 
 -- ---- 1 to 5 stand before what is lent and the room
 abbrev front : List ℕ → Reply
-front bytes =
-    refusal1 (length bytes)
-    then refusal2 bytes
-    then refusal3 bytes
-    then refusal4 (length bytes) (wordAt bytes 2)
-    then refusal5 bytes (wordAt bytes 2)
-
-five : (a b c d e x : Reply) → (a then b then c then d then e then x) ≡ (a then b then c then d then e) then x
-five (refused k vs) b c d e x = refl
-five (taken us) (refused k vs) c d e x = refl
-five (taken us) (taken ws) (refused k vs) d e x = refl
-five (taken us) (taken ws) (taken xs) (refused k vs) e x = refl
-five (taken us) (taken ws) (taken xs) (taken ys) e x = refl
+front bytes = imageRows bytes (taken [])
 
 front-first : (bytes : List ℕ) (lent : Reply) (room : ℕ) → checks bytes lent room ≡ front bytes then (lent then refusal10 room (wordAt bytes 2))
 unfolding checks
-front-first bytes lent room =
-    five (refusal1 (length bytes)) (refusal2 bytes) (refusal3 bytes) (refusal4 (length bytes) (wordAt bytes 2)) (refusal5 bytes (wordAt bytes 2)) _
+front-first bytes lent room = sym (rows-then bytes (lent then refusal10 room (wordAt bytes 2)))
 
 -- a refusal of 1 to 5 has such a number, and its block is one of the image's
 front-names : (bytes : List ℕ) (k : ℕ) (vs : List ℕ) → refused k vs ≡ front bytes → (k ≤ 5) × (getD vs 0 0 ≤ blocks bytes)
@@ -70,7 +60,8 @@ front-names bytes k vs e =
     (λ _ _ e₁. chain-cases (refusal2 bytes) _ k vs e₁ (λ h. let z = by-block bytes k vs h in (omega (arith, z .0), z .1))
     (λ _ _ e₂. chain-cases (refusal3 bytes) _ k vs e₂ (λ h. low 3 (by-test 3 (not (goodHeader (headerOf bytes) && restZero bytes)) k vs h) (omega arith))
     (λ _ _ e₃. chain-cases (refusal4 (length bytes) (wordAt bytes 2)) _ k vs e₃ (λ h. low 4 (by-test 4 (not (eqb (length bytes / 512) (1 + codeBlocks (wordAt bytes 2)))) k vs h) (omega arith))
-    (λ _ _ h. low 5 (by-test 5 (not (allTo (λ j. eqb (codeAt bytes (wordAt bytes 2 + j)) 0) (254 * codeBlocks (wordAt bytes 2) - wordAt bytes 2))) k vs h) (omega arith)))))
+    (λ _ _ e₄. chain-cases (refusal5 bytes (wordAt bytes 2)) _ k vs e₄ (λ h. low 5 (by-test 5 (not (allTo (λ j. eqb (codeAt bytes (wordAt bytes 2 + j)) 0) (254 * codeBlocks (wordAt bytes 2) - wordAt bytes 2))) k vs h) (omega arith))
+    (λ _ _ h. different _ _ _ (sym h))))))
   where
     low : (n : ℕ) → (k ≡ n) × (getD vs 0 0 ≡ 0) → n ≤ 5 → (k ≤ 5) × (getD vs 0 0 ≤ blocks bytes)
     low n z l = (omega (arith, z .0), omega (arith, z .1))
@@ -87,105 +78,96 @@ checks-name bytes bad room k vs e =
 pub in-memory : (bytes : List ℕ) (b : ℕ) → b ≤ blocks bytes → length bytes < 18446744073709551616 → b < 36028797018963968
 in-memory bytes b l m = omega arith
 
--- ---- where the state has no room: 1 to 5 by the image, else what is lent
-abbrev pub lent : Bool → Reply
-lent bad = refuse 6 bad then refuse 7 true
-
-lent-ends : (bad : Bool) (next : Reply) → (lent bad then next) ≡ lent bad
-lent-ends true next = refl
-lent-ends false next = refl
-
-module _ (bytes : List ℕ) (bad : Bool) (room : ℕ) where
-  after-front : (x : Reply) → x ≡ front bytes → checks bytes (lent bad) room ≡ x then lent bad
-  after-front x e = rw (front-first bytes (lent bad) room, ← e, lent-ends bad (refusal10 room (wordAt bytes 2)))
-
-  -- an image that reads well is refused by what is lent
-  pub read-well : (x : Reading) (some : ℕ) → readSays x ≡ reading bytes some → (h : Header) → x ≡ Accepted h → lent bad ≡ checks bytes (lent bad) room
-  read-well x some says h t =
-      let vs : List ℕ = fields h in
-      let e : taken vs ≡ reading bytes some = rw t at says in
-      let a = both-taken vs (checks bytes (taken []) some) _ e in
-      let b = both-taken (a .0 .0) (front bytes) (taken [] then refusal10 some (wordAt bytes 2)) (a .0 .1 ∙ front-first bytes (taken []) some) in
-      sym (after-front (taken (b .0 .0)) (b .0 .1))
-
-  -- one that does not is refused by 1 to 5; 10, for want of room for its code, is not asked
-  pub read-badly : (x : Reading) (some : ℕ) → readSays x ≡ reading bytes some → (r : Refusal) → x ≡ Refused r → if (leb (numberOf r) 5) (refusedBy r) (lent bad) ≡ checks bytes (lent bad) room
-  unfolding refusal10
-  read-badly x some says r u =
-      let e : refusedBy r ≡ reading bytes some = rw u at says in
-      let k : ℕ = numberOf r in
-      let vs : List ℕ = named r in
-      chain-cases (checks bytes (taken []) some) _ k vs e
-      (λ h. chain-cases (front bytes) _ k vs (h ∙ front-first bytes (taken []) some)
-      (λ g. rw (le-leb k 5 ((front-names bytes k vs g) .0)) (sym (after-front (refused k vs) g)))
-      (λ us t g. let n : 5 < k = omega (arith, (by-test 10 (ltb some (wordAt bytes 2)) k vs g) .0) in rw (lt-leb k 5 n) (sym (after-front (taken us) (sym t)))))
-      (λ _ _ h. different _ _ _ (sym h))
-
-pub read-names : (bytes : List ℕ) (x : Reading) (some : ℕ) → readSays x ≡ reading bytes some → (r : Refusal) → x ≡ Refused r → getD (named r) 0 0 ≤ blocks bytes
-read-names bytes x some says r u =
-    chain-cases (checks bytes (taken []) some) _ (numberOf r) (named r) (rw u at says)
-    (λ h. checks-name bytes false some (numberOf r) (named r) h)
-    (λ _ _ h. different _ _ _ (sym h))
-
 -- ---- loading
-twice : (r : Reply) (x : Loading) → loadedBy r (loadedBy r x) ≡ loadedBy r x
-twice (taken vs) x = refl
-twice (refused k vs) x = refl
+pub packed-first : (m : Machine) (state part : List ℕ) → 820 ≤ length state → part ≡ if (eqb (length (take 820 state)) 820) (packed m) (take 820 state) → part ++ drop 820 state ≡ packed m ++ drop 820 state
+packed-first m state part l e =
+    let z : eqb (length (take 820 state)) 820 ≡ true = eq-eqb (length (take 820 state)) 820 (length-take-le 820 state l) in
+    ap (λ (ws : List ℕ). ws ++ drop 820 state) (rw z at e)
 
-alone : (bad : Bool) → (refuse 6 bad then taken []) ≡ refuse 6 bad
-alone true = refl
-alone false = refl
+fresh-length : (h : Header) → (fresh h) .length ≡ h .length
+unfolding fresh
+fresh-length h = refl
 
-refuses-all : (x : Reply) (bad : Bool) → (k : ℕ) × ((vs : List ℕ) × ((x then lent bad) ≡ refused k vs))
-refuses-all (taken vs) true = (6, ([], refl))
-refuses-all (taken vs) false = (7, ([], refl))
-refuses-all (refused k vs) bad = (k, (vs, refl))
+by-taken : (r : Reply) (vs : List ℕ) (l : Loading) → taken vs ≡ r → loadedBy r l ≡ l
+by-taken r vs l e = rw (← e)
 
-unloaded-by : (x : Reply) (w : World) (c : List ℕ) (k : ℕ) (vs : List ℕ) → unloaded k vs ≡ loadedBy x (loaded w c) → refused k vs ≡ x
-unloaded-by (taken us) w c k vs e = let z : _≡_ {A = ℕ} 0 1 = cc in absurd (omega arith)
-unloaded-by (refused n us) w c k vs e = cc
+was-refused : (x : Reply) (vs : List ℕ) (k : ℕ) (ws : List ℕ) → x then taken vs ≡ refused k ws → x ≡ refused k ws
+was-refused (taken us) vs k ws e = different vs ws k e
+was-refused (refused j us) vs k ws e = e
 
--- what loading leaves
-module _ (bytes code common private state : List ℕ) where
+by-both : (a b : Reply) (vs ws : List ℕ) (l : Loading) → taken vs ≡ a → taken ws ≡ b → loadedBy (a then b) l ≡ l
+by-both a b vs ws l e f = rw (← e, ← f)
+
+module _ (bytes code common private state : List ℕ) (x : Reading)
+    (e : readSays x ≡ (checks bytes (refuse 6 (not (storesFit common private))) (length code) then taken (fields (headerOf bytes)))) where
   abbrev bad : Bool
   bad = not (storesFit common private)
 
-  with-state : eqb (length state) 820 ≡ true → cLoad bytes code common private state ≡ loadLeft code common private state (loads bytes common private code)
-  unfolding cLoad loads
-  with-state e = rw (e, alone bad, twice (checks bytes (refuse 6 bad) (length code)))
+  abbrev asks : Reply
+  asks = checks bytes (refuse 6 bad) (length code)
 
-  pub without-state :
-      eqb (length state) 820 ≡ false → (r : ℕ) → r ≡ replyNumber (checks bytes (lent bad) (length code)) →
-      loadLeaves r code common private state ≡ cLoad bytes code common private state
+  pub load-little : length bytes < 18446744073709551616 → blockNamed (readSays x) < 36028797018963968
+  load-little m = go (readSays x) e
+    where
+      go : (r : Reply) → r ≡ (asks then taken (fields (headerOf bytes))) → blockNamed r < 36028797018963968
+      go (taken vs) h = omega arith
+      go (refused k vs) h =
+          in-memory bytes (getD vs 0 0) (chain-cases asks _ k vs h (λ g. checks-name bytes bad (length code) k vs g) (λ _ _ g. different _ _ _ (sym g))) m
+
+  pub load-refuses : (r : Refusal) → x ≡ Refused r → loadLeaves (loadNumber (readSays x)) code common private state ≡ cLoad bytes code common private state
   unfolding cLoad
-  without-state e r h =
-      let a = refuses-all (front bytes) bad in
-      let y : checks bytes (lent bad) (length code) ≡ refused (a .0) (a .1 .0) = after-front bytes bad (length code) (front bytes) refl ∙ a .1 .1 in
-      rw (h, e, y)
+  load-refuses r t =
+      let z : asks ≡ refusedBy r = was-refused asks (fields (headerOf bytes)) (numberOf r) (named r) (rw t at (sym e)) in
+      rw (t, z)
 
-  -- where the state has room, loading leaves what the machine's loading leaves, and the machine's words
-  module _ (long : eqb (length state) 820 ≡ true) (check : Check) (m : Machine) (code′ common′ private′ : List ℕ)
-      (e : loadedIf check (loaded (world m common′ private′) code′) ≡ loads bytes common private code) where
-    pub refused-leaves :
-        (r : Refusal) → check ≡ Failed r →
-        common′ ≡ commonAfter (loads bytes common private code) common →
-        private′ ≡ privateAfter (loads bytes common private code) private →
-        code′ ≡ bufferAfter (loads bytes common private code) code →
-        loadLeaves (replyNumber (refusedBy r)) code′ common′ private′ state ≡ cLoad bytes code common private state
-    refused-leaves r t c q k =
-        let u : unloaded (numberOf r) (named r) ≡ loads bytes common private code = rw t at e in
-        rw (with-state long, k, c, q, ← u)
+  module _ (h : Header) (t : x ≡ Accepted h) (k : Check) (says : checkSays k ≡ refusal10 (length state) 820) where
+    passes : (ws : List ℕ) × (taken ws ≡ asks)
+    passes = (through-all asks (fields (headerOf bytes)) (fields h) (taken []) (rw t at (sym e))) .0
 
-    pub loaded-leaves :
-        (state′ : List ℕ) → check ≡ Passed → state′ ≡ if (eqb (length state) 820) (packed m) state →
-        loadLeaves (256 * m .length) code′ common′ private′ state′ ≡ cLoad bytes code common private state
-    loaded-leaves state′ t s =
-        let u : loaded (world m common′ private′) code′ ≡ loads bytes common private code = rw t at e in
-        rw (with-state long, s, long, ← u)
+    -- 10, for the state
+    pub state-little : blockNamed (checkSays k) < 36028797018963968
+    unfolding refusal10
+    state-little = little 10 (ltb (length state) 820) k says
 
-  pub load-names : (k : ℕ) (vs : List ℕ) → unloaded k vs ≡ loads bytes common private code → getD vs 0 0 ≤ blocks bytes
-  unfolding loads
-  load-names k vs e = checks-name bytes bad (length code) k vs (unloaded-by (loadChecks bytes common private code) _ _ k vs e)
+    pub state-short : (y : Refusal) → k ≡ Failed y → loadLeaves (replyNumber (checkSays k)) code common private state ≡ cLoad bytes code common private state
+    unfolding cLoad
+    state-short y u = rw (u, ← passes .1, ← says, u)
+
+    -- all that is loaded
+    abbrev fresh-world : World
+    fresh-world = record { machine = fresh (headerOf bytes); common = replicate 2048 0; private = replicate 20480 0 }
+
+    abbrev code-laid : List ℕ
+    code-laid = laid (codeAt bytes) (wordAt bytes 2) code
+
+    is-loaded : loads bytes common private code ≡ loaded fresh-world code-laid
+    unfolding loads
+    is-loaded = by-taken asks (passes .0) _ (passes .1)
+
+    pub load-leaves :
+        k ≡ Passed → (m : Machine) (code′ common′ private′ : List ℕ) →
+        setUp m code′ common′ private′ ≡ afterSetUp bytes h code common private →
+        (new : List ℕ) → new ≡ packed m ++ drop 820 state →
+        loadLeaves (256 * h .length) code′ common′ private′ new ≡ cLoad bytes code common private state
+    unfolding cLoad
+    load-leaves u m code′ common′ private′ s new n =
+        let o : _≡_ {A = LoadOutcome} (record { reply = readSays x; after = afterSetUp bytes h code common private }) (record { reply = taken (fields (headerOf bytes)); after = setUp (fresh (headerOf bytes)) code-laid (replicate 2048 0) (replicate 20480 0) }) =
+        load-taken bytes common private code x e h t ∙ ap (loadOf bytes code common private) is-loaded in
+        let q : setUp m code′ common′ private′ ≡ setUp (fresh (headerOf bytes)) code-laid (replicate 2048 0) (replicate 20480 0) = s ∙ ap (λ (y : LoadOutcome). y .after) o in
+        let f : 256 * h .length ≡ 256 * wordAt bytes 2 = ap (λ (y : LoadOutcome). loadNumber (y .reply)) (rw t at o) in
+        let r : taken [] ≡ refusal10 (length state) 820 = rw u at says in
+        let d : loadedBy (asks then refusal10 (length state) 820) (loads bytes common private code) ≡ loaded fresh-world code-laid =
+        by-both asks (refusal10 (length state) 820) (passes .0) [] (loads bytes common private code) (passes .1) r ∙ is-loaded in
+        rw (
+          n,
+          d,
+          f,
+          ap (λ (y : SetUp). y .machine) q,
+          ap (λ (y : SetUp). y .code) q,
+          ap (λ (y : SetUp). y .common) q,
+          ap (λ (y : SetUp). y .private) q,
+          fresh-length (headerOf bytes),
+        )
 
 -- ---- writing
 module _ (h : Header) (words room : ℕ) where
@@ -198,5 +180,9 @@ module _ (h : Header) (words room : ℕ) where
       (λ _ _ g. (by-test 10 (ltb room (imageLength (h .length))) k vs g) .1)))
       (λ _ _ g. different _ _ _ (sym g))
 
-  pub write-bytes : (n : ℕ) → taken (n ∷ []) ≡ writing h words room → n ≡ imageLength (h .length)
-  write-bytes n e = let z = (both-taken (n ∷ []) (writeChecks h words room) _ e) .1 in cc
+  pub write-little : (x : Reply) → x ≡ writing h words room → h .length < 65536 → getD (values x) 0 0 < 36028797018963968
+  write-little (taken vs) e l =
+      let z = (both-taken vs (writeChecks h words room) _ e) .1 in
+      let y : vs ≡ imageLength (h .length) ∷ [] = cc in
+      rw y (omega (arith, l))
+  write-little (refused k vs) e l = omega (arith, write-names k vs e)

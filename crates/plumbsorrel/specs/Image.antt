@@ -1,23 +1,18 @@
 -- Loading and writing images
-use mathlib.Core.Bool.{not}
-use mathlib.Core.List.{List}
+use mathlib.Core.List.{List, _++_}
 use Prim.Native.Nat.{ℕ, _+_, _*_}
-use lib.Dec.{eqb}
-use lib.ListN.{length, getD}
+use lib.ListN.{length, getD, drop}
 use Rattle.image.specs.declared.head.Header.{Header}
-use Rattle.image.specs.Refusal.{Reply, _then_}
-use Rattle.image.specs.Read.{refuse, checks}
-use Rattle.machine.specs.Load.{Loading, loaded, unloaded, loadedBy, loads}
+use Rattle.image.specs.Refusal.{_then_}
+use Rattle.image.specs.Read.{refusal10}
+use Rattle.image.specs.Write.{writing, bytesAfter}
+use Rattle.machine.specs.Load.{Loading, loaded, unloaded, loadedBy, loadChecks, loads}
 use Rattle.layout.specs.Layout.{packed}
-use Rattle.plumbsorrel.specs.Offers.{lentStores}
+use Rattle.plumbsorrel.specs.Number.{replyNumber}
 
 abbrev pub header : ℕ → ℕ → ℕ → ℕ → Header
 header edition length devices variables =
     record { edition = edition; length = length; devices = devices; variables = variables }
-
--- 7 in loading: there is no room for the state's 820 words. It comes after 1 to 6 and before 10
-abbrev pub lentState : List ℕ → List ℕ → List ℕ → Reply
-lentState common private state = lentStores common private then refuse 7 (not (eqb (length state) 820))
 
 -- the number that loading answers, and the code buffer, both stores and the state's words after it
 pub record LoadLeft : Type 0 where
@@ -31,13 +26,26 @@ abbrev pub loadLeaves : ℕ → List ℕ → List ℕ → List ℕ → List ℕ 
 loadLeaves number code common private state =
     record { number = number; code = code; common = common; private = private; state = state }
 
--- n, with the words of the fresh machine; a refusal changes nothing, and its number stands with the block that it names
+-- n, with the words of the fresh machine first in the state; a refusal changes nothing, and its number stands with the block that
+-- it names
 abbrev pub loadLeft : List ℕ → List ℕ → List ℕ → List ℕ → Loading → LoadLeft
-loadLeft code common private state (loaded w c) = loadLeaves (256 * w .machine .length) c (w .common) (w .private) (packed (w .machine))
+loadLeft code common private state (loaded w c) =
+    loadLeaves (256 * w .machine .length) c (w .common) (w .private) (packed (w .machine) ++ drop 820 state)
 loadLeft code common private state (unloaded k vs) = loadLeaves (k + 256 * getD vs 0 0) code common private state
 
--- loading, where none of the table's checks refuses
+-- the state is an output of loading: 10 where it has fewer than 820 words; of more, only the first 820 are touched
 unfoldable pub cLoad : List ℕ → List ℕ → List ℕ → List ℕ → List ℕ → LoadLeft
 cLoad bytes code common private state =
     loadLeft code common private state
-    (loadedBy (checks bytes (lentState common private state) (length code)) (loads bytes common private code))
+    (loadedBy (loadChecks bytes common private code then refusal10 (length state) 820) (loads bytes common private code))
+
+-- ---- writing: the number that it answers, and the output after it
+pub record WriteLeft : Type 0 where
+  pub number : ℕ
+  pub out : List ℕ
+
+abbrev pub writeLeaves : ℕ → List ℕ → WriteLeft
+writeLeaves number out = record { number = number; out = out }
+
+abbrev pub cWrite : Header → List ℕ → List ℕ → WriteLeft
+cWrite h code out = writeLeaves (replyNumber (writing h (length code) (length out))) (bytesAfter h code out)

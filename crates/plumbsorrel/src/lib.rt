@@ -1,4 +1,4 @@
-// The machine for C: numbers and slices only. Each function answers one number, defined in specs/Number.antt.
+// The machine for C: numbers and slices only. Each function answers one number, defined in specs/.
 mod events;
 mod images;
 mod number;

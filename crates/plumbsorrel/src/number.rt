@@ -1,15 +1,16 @@
 // Answers as numbers.
 ghost use mathlib.Core.Path.{_≡_};
-ghost use mathlib.Core.Bool.{true, _&&_, not};
 ghost use Prim.Native.Nat.{_≤_, _<_};
-ghost use lib.Dec.{eqb};
 ghost use lib.ListN.{getD};
-ghost use Rattle.image.specs.Refusal.{named, refusedBy, _then_};
-ghost use Rattle.image.specs.Read.{refuse};
+ghost use Rattle.image.specs.Refusal.{named, refusedBy, checkSays};
+ghost use Rattle.image.specs.Read.{readSays};
+ghost use Rattle.image.specs.Write.{writeSays};
 ghost use Rattle.run.specs.Said.{endOf, answerOf};
-ghost use Rattle.plumbsorrel.specs.Number.{endNumber, answerNumber, replyNumber};
+ghost use Rattle.plumbsorrel.specs.Number.{endNumber, answerNumber, replyNumber, loadNumber, values, blockNamed};
+use image::Check;
+use image::Reading;
 use image::Refusal;
-use machine::Machine;
+use image::Writing;
 use run::Ended;
 use run::Reply;
 
@@ -35,14 +36,6 @@ pub(crate) fn of_answer(reply: Reply, count: u32) -> u64
     }
 }
 
-// 6: a lent store has the wrong length; else 7, for words that are no machine's.
-pub(crate) fn of_no_machine(common: usize, private: usize) -> u64
-    ensures { λ r. ⌜ r ≡ replyNumber (refuse 6 (not (eqb common 2048 && eqb private 20480)) then refuse 7 true) ⌝ }
-{
-    let fit = (common == Machine::COMMON) & (private == Machine::PRIVATE);
-    if fit { 7 } else { 6 }
-}
-
 // The block that a refusal names, or 0.
 fn block_of(r: Refusal) -> usize
     ensures { λ b. ⌜ b ≡ getD (named r) 0 0 ⌝ }
@@ -62,9 +55,42 @@ fn block_of(r: Refusal) -> usize
 }
 
 // The refusal's number, and the block of an image in memory.
-pub(crate) fn of_refusal(r: Refusal) -> u64
+fn of_refusal(r: Refusal) -> u64
     requires { ⌜ getD (named r) 0 0 < 36028797018963968 ⌝ }
     ensures { λ x. ⌜ x ≡ replyNumber (refusedBy r) ⌝ }
 {
     image::number(r) as u64 + 256 * (block_of(r) as u64)
+}
+
+// The number of a check: 0 where it has passed.
+pub(crate) fn of_check(check: Check) -> u64
+    requires { ⌜ blockNamed (checkSays check) < 36028797018963968 ⌝ }
+    ensures { λ x. ⌜ x ≡ replyNumber (checkSays check) ⌝ }
+{
+    match check {
+        Check::Passed => 0,
+        Check::Failed(r) => of_refusal(r),
+    }
+}
+
+// The number of what loading answers: n, or the refusal.
+pub(crate) fn of_reading(reading: Reading) -> u64
+    requires { ⌜ blockNamed (readSays reading) < 36028797018963968 ⌝ }
+    ensures { λ x. ⌜ x ≡ loadNumber (readSays reading) ⌝ }
+{
+    match reading {
+        Reading::Accepted(h) => 256 * (h.length as u64),
+        Reading::Refused(r) => of_refusal(r),
+    }
+}
+
+// The number of what writing answers: the image's bytes, or the refusal.
+pub(crate) fn of_writing(writing: Writing) -> u64
+    requires { ⌜ getD (values (writeSays writing)) 0 0 < 36028797018963968 ⌝ }
+    ensures { λ x. ⌜ x ≡ replyNumber (writeSays writing) ⌝ }
+{
+    match writing {
+        Writing::Written(bytes) => 256 * (bytes as u64),
+        Writing::Refused(r) => of_refusal(r),
+    }
 }

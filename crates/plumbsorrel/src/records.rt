@@ -5,45 +5,63 @@ ghost use mathlib.Core.List.{_++_};
 ghost use Prim.Native.Nat.{_≤_};
 ghost use lib.Dec.{eqb, ltb};
 ghost use lib.ListN.{length, drop};
-ghost use Rattle.image.specs.Refusal.{_then_};
-ghost use Rattle.image.specs.Read.{refuse, refusal10};
+ghost use Rattle.image.specs.Refusal.{checkSays};
+ghost use Rattle.image.specs.Read.{refuse};
 ghost use Rattle.machine.specs.Device.{isBusy};
 ghost use Rattle.machine.specs.Sound.{sound};
-ghost use Rattle.run.specs.Said.{checkSays};
-ghost use Rattle.plumbsorrel.specs.Number.{replyNumber};
-ghost use Rattle.plumbsorrel.specs.Record.{recordChecks, recordAfter};
+ghost use Rattle.plumbsorrel.specs.Record.{asksRecord, recordLeaves, cRecord};
 use crate::number;
+use image::Check;
 use image::Refusal;
 use layout::Unpacked;
 use machine::Machine;
-use run::Check;
 
-// 6, 7, 9 and 10, in the table's order: the first refusal returns at once.
-fn check_record(u: Unpacked, d: u16, common: usize, private: usize, room: usize) -> Check
-    ensures { λ r. ⌜ checkSays r ≡ (refuse 6 (not (eqb common 2048 && eqb private 20480)) then refuse 7 (not (u .known && sound (u .machine))) then refuse 9 (ltb 4 d || not (isBusy (u .machine) d)) then refusal10 room 4) ⌝ }
+// 7: the words are no machine's, or its state is not sound.
+fn check_sound(u: Unpacked) -> Check
+    ensures { λ r. ⌜ checkSays r ≡ refuse 7 (not (u .known && sound (u .machine))) ⌝ }
 {
-    let fit = (common == Machine::COMMON) & (private == Machine::PRIVATE);
-    if !fit {
-        return Check::Failed(Refusal::Lent);
-    }
-    let m = u.machine;
     let known = u.known;
-    let sound = sound::is_sound(m);
+    let sound = sound::is_sound(u.machine);
     let good = known & sound;
-    if !good {
-        return Check::Failed(Refusal::Unsound);
+    if good {
+        Check::Passed
+    } else {
+        Check::Failed(Refusal::Unsound)
     }
+}
+
+// 9: no such device, or it is not busy.
+fn check_busy(m: Machine, d: u16) -> Check
+    ensures { λ r. ⌜ checkSays r ≡ refuse 9 (ltb 4 d || not (isBusy m d)) ⌝ }
+{
     if 4 < d {
         return Check::Failed(Refusal::Done);
     }
     let x = m.devices[d as usize];
-    if Machine::NOBODY <= x.process {
-        return Check::Failed(Refusal::Done);
+    if x.process < Machine::NOBODY {
+        Check::Passed
+    } else {
+        Check::Failed(Refusal::Done)
     }
-    if room < 4 {
-        return Check::Failed(Refusal::Short);
-    }
-    Check::Passed
+}
+
+// 6, 7, 9 and 10, in the table's order: the first refusal returns at once.
+fn check_record(u: Unpacked, d: u16, common: usize, private: usize, room: usize) -> Check
+    ensures { λ r. ⌜ checkSays r ≡ asksRecord (eqb common 2048 && eqb private 20480) (u .known && sound (u .machine)) d (isBusy (u .machine) d) room ⌝ }
+{
+    let lent = run::check_stores(common, private);
+    let Check::Passed = lent else {
+        return lent;
+    };
+    let sound = check_sound(u);
+    let Check::Passed = sound else {
+        return sound;
+    };
+    let busy = check_busy(u.machine, d);
+    let Check::Passed = busy else {
+        return busy;
+    };
+    image::check_room(room, 4)
 }
 
 // The four words stand first; the rest stays.
@@ -66,13 +84,13 @@ pub extern "C" fn plumbsorrel_record<'a>(
     state: &[u16],
     out: &mut [u16],
 ) -> u64
-    ensures { λ r. ⌜ (r ≡ replyNumber (recordChecks device (now (common .entry)) (now (private .entry)) (now (state .entry)) (length (now (out .entry))))) × (now (out .exit) ≡ recordAfter device (now (common .entry)) (now (private .entry)) (now (state .entry)) (now (out .entry))) ⌝ }
+    ensures { λ r. ⌜ recordLeaves r (now (out .exit)) ≡ cRecord device (now (common .entry)) (now (private .entry)) (now (state .entry)) (now (out .entry)) ⌝ }
 {
     let u = layout::unpack(state);
     let check = check_record(u, device, common.len(), private.len(), out.len());
-    if let Check::Failed(r) = check {
-        return number::of_refusal(r);
-    }
+    let Check::Passed = check else {
+        return number::of_check(check);
+    };
     let m = u.machine;
     let words = kernel::record(m, device as u8, common, private);
     copy(words, out);

@@ -1,15 +1,18 @@
 // Step and run.
 ghost use mathlib.Core.Path.{_≡_};
-ghost use mathlib.Core.Bool.{true, _&&_, not};
+ghost use mathlib.Core.Bool.{_&&_, not};
+ghost use mathlib.Core.List.{List};
+ghost use Prim.Native.Nat.{ℕ};
 ghost use lib.Dec.{eqb};
-ghost use lib.ListN.{length, getD};
-ghost use Rattle.notation.specs.If.{if};
-ghost use Rattle.image.specs.Refusal.{_then_};
+ghost use lib.ListN.{length};
+ghost use Rattle.image.specs.Refusal.{checkSays};
 ghost use Rattle.image.specs.Read.{refuse};
-ghost use Rattle.plumbsorrel.specs.Number.{replyNumber};
-ghost use Rattle.plumbsorrel.specs.Offers.{leaves, cStep, cRun};
+ghost use Rattle.plumbsorrel.specs.Offers.{codeFits, leaves, cStep, cRun};
 use crate::number;
 use crate::state;
+use image::Check;
+use image::Refusal;
+use machine::Machine;
 
 // A word as a length.
 fn wide(x: u16) -> usize
@@ -20,7 +23,7 @@ fn wide(x: u16) -> usize
 
 // The code is n words: n is word 818 where there are 820 words, else there is no n.
 fn code_fits(code: usize, state: &[u16]) -> bool
-    ensures { λ r. ⌜ r ≡ if (eqb (length (now (state .entry))) 820) (eqb code (getD (now (state .entry)) 818 0)) true ⌝ }
+    ensures { λ r. ⌜ ((c : List ℕ) → length c ≡ code → r ≡ codeFits c (now (state .entry))) ⌝ }
 {
     if state.len() != 820 {
         return true;
@@ -29,15 +32,17 @@ fn code_fits(code: usize, state: &[u16]) -> bool
     code == n
 }
 
-// 6 and 7, for words that are no machine's.
-fn no_machine(code: usize, common: usize, private: usize, state: &[u16]) -> u64
-    ensures { λ r. ⌜ r ≡ replyNumber (refuse 6 (not ((eqb common 2048 && eqb private 20480) && if (eqb (length (now (state .entry))) 820) (eqb code (getD (now (state .entry)) 818 0)) true)) then refuse 7 true) ⌝ }
+// 6: a lent store has the wrong length, or the code is not n words.
+fn check_lent(code: usize, common: usize, private: usize, state: &[u16]) -> Check
+    ensures { λ r. ⌜ ((c : List ℕ) → length c ≡ code → checkSays r ≡ refuse 6 (not ((eqb common 2048 && eqb private 20480) && codeFits c (now (state .entry))))) ⌝ }
 {
     let fits = code_fits(code, state);
-    if !fits {
-        return 6;
+    let fit = (common == Machine::COMMON) & (private == Machine::PRIVATE) & fits;
+    if fit {
+        Check::Passed
+    } else {
+        Check::Failed(Refusal::Lent)
     }
-    number::of_no_machine(common, private)
 }
 
 #[no_mangle]
@@ -49,11 +54,15 @@ pub extern "C" fn plumbsorrel_step(
 ) -> u64
     ensures { λ r. ⌜ leaves r (now (state .exit)) (now (common .exit)) (now (private .exit)) ≡ cStep (now (code .entry)) (now (common .entry)) (now (private .entry)) (now (state .entry)) ⌝ }
 {
+    let lent = check_lent(code.len(), common.len(), private.len(), state);
+    let Check::Passed = lent else {
+        return number::of_check(lent);
+    };
     let u = layout::unpack(state);
-    let known = u.known;
-    if !known {
-        return no_machine(code.len(), common.len(), private.len(), state);
-    }
+    let known = state::check_known(u.known);
+    let Check::Passed = known else {
+        return number::of_check(known);
+    };
     let m = u.machine;
     let x = run::step(m, code, common, private);
     state::put_back(x, state)
@@ -69,11 +78,15 @@ pub extern "C" fn plumbsorrel_run(
 ) -> u64
     ensures { λ r. ⌜ leaves r (now (state .exit)) (now (common .exit)) (now (private .exit)) ≡ cRun (now (code .entry)) budget (now (common .entry)) (now (private .entry)) (now (state .entry)) ⌝ }
 {
+    let lent = check_lent(code.len(), common.len(), private.len(), state);
+    let Check::Passed = lent else {
+        return number::of_check(lent);
+    };
     let u = layout::unpack(state);
-    let known = u.known;
-    if !known {
-        return no_machine(code.len(), common.len(), private.len(), state);
-    }
+    let known = state::check_known(u.known);
+    let Check::Passed = known else {
+        return number::of_check(known);
+    };
     let m = u.machine;
     let x = run::run(m, code, budget, common, private);
     state::put_back(x, state)

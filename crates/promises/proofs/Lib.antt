@@ -1,7 +1,6 @@
 pub mod Words
 pub mod Checks
 pub mod OneImage
-pub mod SameOutcome
 pub mod Table
 pub mod Laws
 pub mod Rows
@@ -33,4 +32,3 @@ pub mod RunSteps
 pub mod JobFaults
 pub mod JobEnds
 pub mod StoppedJob
-pub mod Refusals

@@ -1,5 +1,4 @@
 pub mod OneImage
-pub mod SameOutcome
 pub mod Table
 pub mod Laws
 pub mod Marks
@@ -8,4 +7,3 @@ pub mod Faults
 pub mod SoundKept
 pub mod RunSteps
 pub mod StoppedJob
-pub mod Refusals

@@ -1,5 +1,5 @@
 -- The table's checks one after the other, and what a door answers when one refuses or all pass
-use mathlib.Core.Path.{_≡_, refl, sym, _∙_}
+use mathlib.Core.Path.{_≡_, refl, sym, subst, _∙_}
 use mathlib.Core.Bool.{Bool, true, false, not, _&&_, _||_, and-false}
 use mathlib.Core.List.{List, []}
 use Prim.Native.Nat.{ℕ, _≤_, _<_}
@@ -10,7 +10,9 @@ use borrow.Author.Tests.{ltb-true, ltb-false, lt-ltb, eqb-true, not-false}
 use Rattle.notation.specs.Upto.{allTo}
 use Rattle.notation.proofs.Upto.{both, neither, all-at}
 use Rattle.image.specs.declared.table.Refusal.{Refusal}
-use Rattle.image.specs.Refusal.{Reply, taken, refused as refusedR, numberOf, _then_}
+use Rattle.image.specs.declared.table.Check.{Check}
+use Rattle.image.specs.declared.table.Check.the-variants.{Passed, Failed}
+use Rattle.image.specs.Refusal.{Reply, taken, refused as refusedR, named, refusedBy, _then_, checkSays}
 use Rattle.image.specs.Read.{refuse}
 use Rattle.image.proofs.Laws.{passed, both-taken}
 use Rattle.machine.specs.declared.Machine.{Machine}
@@ -24,48 +26,51 @@ use Rattle.machine.specs.Run.{run}
 use Rattle.promises.specs.SoundKept.{Shaped}
 use Rattle.promises.proofs.Runs.{part}
 use Rattle.kernel.specs.Did.{ends as doneBy}
-use Rattle.run.specs.declared.answer.Check.{Check}
-use Rattle.run.specs.declared.answer.Check.the-variants.{Passed, Failed}
-use Rattle.run.specs.Said.{world, checkSays, Answered, ends, refused, Outcome, outcome}
+use Rattle.run.specs.Said.{world, answerOf, ends, outcome, runOutcome, doneOutcome, replyOf}
 use Rattle.run.specs.Ran.{Accepted}
 
--- ---- the chain: a check that failed ends it, one that passed hands it on
+-- ---- rows 6 to 9 name nothing beside their number
+abbrev pub NamesNone : Reply → Type 0
+NamesNone (taken vs) = Unit {0}
+NamesNone (refusedR n vs) = vs ≡ []
+
+row-names-none : (n : ℕ) (bad : Bool) → NamesNone (refuse n bad)
+row-names-none n true = refl
+row-names-none n false = tt
+
+then-names-none : (a b : Reply) → NamesNone a → NamesNone b → NamesNone (a then b)
+then-names-none (taken vs) b p q = q
+then-names-none (refusedR n vs) b p q = p
+
+pub state-names-none : (m : Machine) → NamesNone (refusal7 m then refusal8 m)
+state-names-none m =
+    then-names-none (refusal7 m) (refusal8 m) (row-names-none 7 (not (sound m))) (row-names-none 8 (not (eqb (m .stop) going)))
+
+pub event-names-none : (bad : Bool) (m : Machine) (d status : ℕ) → NamesNone (refuse 6 bad then refusal7 m then refusal8 m then refusal9 m d status)
+event-names-none bad m d status =
+    let nine : NamesNone (refusal9 m d status) = row-names-none 9 (ltb 6 status || ltb 4 d || not (isBusy m d)) in
+    let eight : NamesNone (refusal8 m then refusal9 m d status) =
+    then-names-none (refusal8 m) (refusal9 m d status) (row-names-none 8 (not (eqb (m .stop) going))) nine in
+    let seven : NamesNone (refusal7 m then refusal8 m then refusal9 m d status) =
+    then-names-none (refusal7 m) (refusal8 m then refusal9 m d status) (row-names-none 7 (not (sound m))) eight in
+    then-names-none (refuse 6 bad) (refusal7 m then refusal8 m then refusal9 m d status) (row-names-none 6 bad) seven
+
+-- ---- what a door answers: a refusal by its number, changing nothing; else the work is done
 module _ (k : Check) (r : Reply) (e : checkSays k ≡ r) where
-  pub over : (x : Refusal) (next : Reply) → k ≡ Failed x → checkSays k ≡ r then next
-  over x next t = rw (← e, t)
+  names-none : NamesNone r → (x : Refusal) → k ≡ Failed x → named x ≡ []
+  names-none p x t = let z : refusedBy x ≡ r = rw t at e in subst NamesNone (sym z) p
 
-  pub goes-on : (x next : Reply) → k ≡ Passed → x ≡ next → x ≡ r then next
-  goes-on x next t h = rw (← e, t) h
-
-  -- a refusal is answered by its number, and changes nothing; else the work is done
-  pub refuses : (x : Refusal) (w : World) (s : Stepped) → k ≡ Failed x → record { world = w; answered = refused (numberOf x); count = 0 } ≡ outcome w (offered r s)
-  refuses x w s t = rw (← e, t)
+  pub refuses : NamesNone r → (x : Refusal) (w : World) (s : Stepped) → k ≡ Failed x → record { world = w; answered = answerOf (replyOf k); count = 0 } ≡ outcome w (offered r s)
+  refuses p x w s t = rw (t, names-none p x t, ← e, t)
 
   pub takes : (w : World) (s : Stepped) → k ≡ Passed → record { world = s .world; answered = ends (s .ended); count = s .count } ≡ outcome w (offered r s)
   takes w s t = rw (← e, t)
 
--- two checks in one
-module _ (k : Check) (r₁ r₂ : Reply) (e : checkSays k ≡ r₁ then r₂) where
-  first-of-three : (r₁ r₂ next : Reply) → (r₁ then r₂) then next ≡ r₁ then r₂ then next
-  first-of-three (taken vs) r₂ next = refl
-  first-of-three (refusedR n vs) r₂ next = refl
-
-  pub over-both : (x : Refusal) (next : Reply) → k ≡ Failed x → checkSays k ≡ r₁ then r₂ then next
-  over-both x next t = over k (r₁ then r₂) e x next t ∙ first-of-three r₁ r₂ next
-
-  pub goes-on-both : (x next : Reply) → k ≡ Passed → x ≡ next → x ≡ r₁ then r₂ then next
-  goes-on-both x next t h = goes-on k (r₁ then r₂) e x next t h ∙ first-of-three r₁ r₂ next
+  -- an event counts no instruction
+  pub happens : (w v : World) → k ≡ Passed → record { world = v; answered = answerOf (replyOf k); count = 0 } ≡ outcome w (offered r (stepped v onward 0))
+  happens w v t = rw (t, ← e, t)
 
 -- ---- the tests of the code
-pub unsound : (m : Machine) (x : Bool) → x ≡ sound m → x ≡ false → refusedR 7 [] ≡ refusal7 m then refusal8 m
-unsound m x e t = rw (← e, t)
-
-pub halted : (m : Machine) (x : Bool) → x ≡ sound m → x ≡ true → eqb (m .stop) going ≡ false → refusedR 8 [] ≡ refusal7 m then refusal8 m
-halted m x e t u = rw (← e, t, u)
-
-pub accepted : (m : Machine) (x : Bool) → x ≡ sound m → x ≡ true → eqb (m .stop) going ≡ true → taken [] ≡ refusal7 m then refusal8 m
-accepted m x e t u = rw (← e, t, u)
-
 pub out : (m : Machine) (d status : ℕ) → ltb 6 status || ltb 4 d ≡ true → refusedR 9 [] ≡ refusal9 m d status
 out m d status e = rw e
 
@@ -119,39 +124,39 @@ event-done m d status arg c q v =
 
 pub event-taken : (k : Check) (m : Machine) (d status : ℕ) (c q : List ℕ) → checkSays k ≡ (refuse 6 (not (storesFit c q)) then refusal7 m then refusal8 m then refusal9 m d status) → k ≡ Passed
     → (arg : ℕ) (x : Machine) (c′ q′ : List ℕ) → world x c′ q′ ≡ doneBy (world m c q) d status arg
-    → record { world = world x c′ q′; answered = ends onward; count = 0 } ≡ outcome (world m c q) (offerDone (world m c q) d status arg)
+    → record { world = world x c′ q′; answered = answerOf (replyOf k); count = 0 } ≡ doneOutcome d status arg (world m c q)
 unfolding offerDone
 event-taken k m d status c q h t arg x c′ q′ e =
     let v = event-passed k m d status c q h t in
-    rw (e ∙ event-done m d status arg c q v) (takes k _ h (world m c q) (stepped (deviceDone (world m c q) d status arg) onward 0) t)
+    rw (e ∙ event-done m d status arg c q v) (happens k _ h (world m c q) (deviceDone (world m c q) d status arg) t)
 
--- ---- a run: the check of what is lent, then that of the state
-module _ (code : List ℕ) (m : Machine) (c q : List ℕ) (budget : ℕ)
-    (k : Check) (lent : checkSays k ≡ refuse 6 (not ((eqb (length c) 2048 && eqb (length q) 20480) && eqb (length code) (m .length)))) where
-  abbrev w : World
-  w = world m c q
+-- ---- a run whose checks have passed
+module _ (code : List ℕ) (m : Machine) (c q : List ℕ) (k : Check) where
+  abbrev lent : Bool
+  lent = storesFit c q && eqb (length code) (m .length)
 
-  pub lent-refuses : (x : Refusal) → k ≡ Failed x → record { world = w; answered = refused (numberOf x); count = 0 } ≡ outcome w (offerRun code budget w)
+  abbrev rows : Reply
+  rows = refuse 6 (not lent) then refusal7 m then refusal8 m
+
+  pub run-names-none : NamesNone rows
+  run-names-none = then-names-none (refuse 6 (not lent)) (refusal7 m then refusal8 m) (row-names-none 6 (not lent)) (state-names-none m)
+
+  pub run-accepted : checkSays k ≡ rows → k ≡ Passed → Shaped m → Accepted code (world m c q)
+  run-accepted e t shape =
+      let a : taken [] ≡ rows = rw t at e in
+      let b = both-taken [] (refuse 6 (not lent)) (refusal7 m then refusal8 m) a in
+      let z = both (storesFit c q) (eqb (length code) (m .length)) (not-false lent (passed 6 (not lent) _ (b .0 .1))) in
+      record {
+        shape = shape;
+        sound = not-false (sound m) (passed 7 (not (sound m)) _ ((both-taken [] (refusal7 m) (refusal8 m) (b .1)) .0 .1));
+        stores = z .0;
+        long = eqb-true (length code) (m .length) (z .1);
+      }
+
+  pub run-takes : checkSays k ≡ rows → k ≡ Passed → (budget : ℕ) (s : Stepped) → s ≡ run code budget (world m c q) → record { world = s .world; answered = ends (s .ended); count = s .count } ≡ runOutcome code budget (world m c q)
   unfolding offerRun
-  lent-refuses x t = rw (← lent, t)
+  run-takes e t budget s h = rw h (takes k rows e (world m c q) (run code budget (world m c q)) t)
 
-  module _ (fits : k ≡ Passed) (j : Check) (state : checkSays j ≡ (refusal7 m then refusal8 m)) where
-    pub state-refuses : (x : Refusal) → j ≡ Failed x → record { world = w; answered = refused (numberOf x); count = 0 } ≡ outcome w (offerRun code budget w)
-    unfolding offerRun
-    state-refuses x t = rw (← lent, fits, ← state, t)
-
-    pub run-takes : j ≡ Passed → (s : Stepped) → s ≡ run code budget w → record { world = s .world; answered = ends (s .ended); count = s .count } ≡ outcome w (offerRun code budget w)
-    unfolding offerRun
-    run-takes t s e = rw (← lent, fits, ← state, t, e)
-
-    pub run-accepted : j ≡ Passed → Shaped m → Accepted code w
-    run-accepted t shape =
-        let a : taken [] ≡ refuse 6 (not ((eqb (length c) 2048 && eqb (length q) 20480) && eqb (length code) (m .length))) = rw fits at lent in
-        let b : taken [] ≡ (refusal7 m then refusal8 m) = rw t at state in
-        let z = both (storesFit c q) (eqb (length code) (m .length)) (not-false _ (passed 6 (not (storesFit c q && eqb (length code) (m .length))) [] a)) in
-        record {
-          shape = shape;
-          sound = not-false (sound m) (passed 7 (not (sound m)) _ ((both-taken [] (refusal7 m) (refusal8 m) b) .0 .1));
-          stores = z .0;
-          long = eqb-true (length code) (m .length) (z .1);
-        }
+  pub run-refuses : checkSays k ≡ rows → (x : Refusal) → k ≡ Failed x → (budget : ℕ) → record { world = world m c q; answered = answerOf (replyOf k); count = 0 } ≡ runOutcome code budget (world m c q)
+  unfolding offerRun
+  run-refuses e x t budget = refuses k rows e run-names-none x (world m c q) (run code budget (world m c q)) t

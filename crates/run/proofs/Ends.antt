@@ -26,15 +26,13 @@ use Rattle.promises.proofs.Marks.{marked}
 use Rattle.promises.proofs.Tested.{tested}
 use Rattle.promises.proofs.Stepping.{Able, private-long, able-fit, able-again}
 use Rattle.engine.specs.declared.burst.Burst.{Burst}
-use Rattle.engine.specs.declared.burst.End.{End}
-use Rattle.engine.specs.declared.burst.End.the-variants.{Budget, Call, Fault, Job, Unfit}
-use Rattle.engine.specs.Burst.{Bursted, moved, jobOver, goesOn, bursts}
+use Rattle.engine.specs.Burst.{Ending, atBudget, atCall, atFault, atJobsEnd, unfit, Bursted, endSays, burstSays, moved, jobOver, goesOn, bursts}
 use Rattle.kernel.specs.declared.answer.Decision.{Decision}
 use Rattle.kernel.specs.declared.caller.Caller.{Caller}
 use Rattle.kernel.specs.Did.{Outcome, outcome, decided, callerOf, traps}
 use Rattle.run.specs.Turn.{put, later, follows, turn, quotaOf}
 use Rattle.run.specs.Said.{world}
-use Rattle.run.specs.Ran.{Accepted, Small, Callable, Countable, counted, following, movedCaller, settled}
+use Rattle.run.specs.Ran.{Accepted, Leaves, BurstOf, Small, Callable, Countable, counted, following, movedCaller, settled}
 use Rattle.run.proofs.Parts.{put-same, put-view, put-put}
 use Rattle.run.proofs.Turns.{few, room, own-long, burst-step, steps-on, runs-on, stays-on, is-fit}
 
@@ -43,27 +41,30 @@ module _ (code : List ℕ) (i : ℕ) (p : Process) (quota : ℕ) (common q : Lis
   abbrev seenBy : List ℕ → View
   seenBy o = record { code = code; floor = floorOf p; holding = ltb 0 (p .holds); regs = p .regs; common = common; own = o }
 
-  pub burst-put : (x : Burst) (c o : List ℕ) → record { burst = x; common = c; own = o } ≡ bursts quota (seenBy (midOf (2048 * i) (2048 * i + 2048 - 2048 * i) q))
-      → (m : Machine) → m .running ≡ i → proc m i ≡ p
-      → (x ≡ (bursts quota (view code (world m common q))) .burst)
-      × (c ≡ (bursts quota (view code (world m common q))) .common)
-      × (putMid (2048 * i) (2048 * i + 2048 - 2048 * i) q o ≡ withPart (m .running) ((bursts quota (view code (world m common q))) .own) q)
+  pub burst-put : (x : Burst) (c o : List ℕ) → burstSays x c o ≡ bursts quota (seenBy (midOf (2048 * i) (2048 * i + 2048 - 2048 * i) q))
+      → BurstOf i p code quota x common q c (putMid (2048 * i) (2048 * i + 2048 - 2048 * i) q o)
   burst-put x c o e m r s =
       let z : 2048 * i + 2048 - 2048 * i ≡ 2048 = omega arith in
       let v : view code (world m common q) ≡ seenBy (partOf i q) = rw (r, s) in
-      let h : record { burst = x; common = c; own = o } ≡ bursts quota (seenBy (partOf i q)) = rw z at e in
-      rw (v, r) (ap (λ (b : Bursted). b .burst) h, ap (λ (b : Bursted). b .common) h, rw (z, ap (λ (b : Bursted). b .own) h, drop-drop 2048 (2048 * i) q))
+      let h : burstSays x c o ≡ bursts quota (seenBy (partOf i q)) = rw z at e in
+      record {
+        regs = rw v (ap (λ (b : Bursted). b .regs) h);
+        count = rw v (ap (λ (b : Bursted). b .count) h);
+        end = rw v (ap (λ (b : Bursted). b .ending) h);
+        common = rw v (ap (λ (b : Bursted). b .common) h);
+        private = rw (v, r, z, ap (λ (b : Bursted). b .own) h, drop-drop 2048 (2048 * i) q);
+      }
 
 -- ---- how a burst ends: after at most so many instructions; a call and a fault are not counted yet
-abbrev pub Ends : List ℕ → End → World → ℕ → ℕ → Type 0
-Ends code Budget v count most = count ≤ most
-Ends code Job v count most = count ≤ most
-Ends code (Call k) v count most = (count < most) × Able code v × (v .machine .running < nobody) × ((instruct (view code v)) .out ≡ calls k)
-Ends code (Fault f) v count most = (count < most) × (f ≤ 9)
-Ends code Unfit v count most = ⊥
+abbrev pub Ends : List ℕ → Ending → World → ℕ → ℕ → Type 0
+Ends code atBudget v count most = count ≤ most
+Ends code atJobsEnd v count most = count ≤ most
+Ends code (atCall k) v count most = (count < most) × Able code v × (v .machine .running < nobody) × ((instruct (view code v)) .out ≡ calls k)
+Ends code (atFault f) v count most = (count < most) × (f ≤ 9)
+Ends code unfit v count most = ⊥
 
 abbrev EndsWell : List ℕ → World → ℕ → Bursted → Type 0
-EndsWell code w most x = Ends code (x .burst .end) (put w (x .burst .regs) (x .common) (x .own)) (x .burst .count) most
+EndsWell code w most x = Ends code (x .ending) (put w (x .regs) (x .common) (x .own)) (x .count) most
 
 module _ (code : List ℕ) (w : World) (able : Able code w) (runs : w .machine .running < nobody) where
   abbrev v : View
@@ -95,7 +96,7 @@ module _ (code : List ℕ) (w : World) (able : Able code w) (runs : w .machine .
       let l = own-long code w able runs in
       let o = room code w able runs in
       let x : Bursted = goesOn (c + 1) k (moved v r (d .common) (d .own)) in
-      let h = rw (put-view w r (d .common) (d .own) f l o code, put-put w r (d .common) (d .own) f l o (x .burst .regs) (x .common) (x .own)) at rest in
+      let h = rw (put-view w r (d .common) (d .own) f l o code, put-put w r (d .common) (d .own) f l o (x .regs) (x .common) (x .own)) at rest in
       rw (burst-step code w able runs (next r) e c k, j) h
 
 end-first : (code : List ℕ) (w : World) → Able code w → w .machine .running < nobody → (c most : ℕ) → c + 1 ≡ most → (o : Out) → (instruct (view code w)) .out ≡ o
@@ -169,26 +170,26 @@ unfolding traps
 call-follows w k can count = rw (can .stores, can .able) (settled-call w count (kernel w k))
 
 -- ---- what follows a burst, by its end
-settles : (code : List ℕ) (en : End) (v : World) (count most : ℕ) → Ends code en v count most → settled (following en v) (counted en count) ≡ follows en v count
-settles code Budget v count most h = refl
-settles code Job v count most h = refl
-settles code (Call k) v count most h = call-follows v k (callable code v k (h .1) (h .2) (h .3)) count
-settles code (Fault f) v count most h = settled-call v count (stops f)
-settles code Unfit v count most h = refl
+settles : (code : List ℕ) (en : Ending) (v : World) (count most : ℕ) → Ends code en v count most → settled (following en v) (counted en count) ≡ follows en v count
+settles code atBudget v count most h = refl
+settles code atJobsEnd v count most h = refl
+settles code (atCall k) v count most h = call-follows v k (callable code v k (h .1) (h .2) (h .3)) count
+settles code (atFault f) v count most h = settled-call v count (stops f)
+settles code unfit v count most h = refl
 
-ends-small : (code : List ℕ) (en : End) (v : World) (count most : ℕ) → Ends code en v count most → Small en
-ends-small code Budget v count most h = tt
-ends-small code Job v count most h = tt
-ends-small code (Call k) v count most h = tt
-ends-small code (Fault f) v count most h = h .1
-ends-small code Unfit v count most h = tt
+ends-small : (code : List ℕ) (en : Ending) (v : World) (count most : ℕ) → Ends code en v count most → Small en
+ends-small code atBudget v count most h = tt
+ends-small code atJobsEnd v count most h = tt
+ends-small code (atCall k) v count most h = tt
+ends-small code (atFault f) v count most h = h .1
+ends-small code unfit v count most h = tt
 
-ends-countable : (code : List ℕ) (en : End) (v : World) (count most : ℕ) → most ≤ 4294967295 → Ends code en v count most → Countable en count
-ends-countable code Budget v count most l h = tt
-ends-countable code Job v count most l h = tt
-ends-countable code (Call k) v count most l h = omega (arith, l, h .0)
-ends-countable code (Fault f) v count most l h = omega (arith, l, h .0)
-ends-countable code Unfit v count most l h = tt
+ends-countable : (code : List ℕ) (en : Ending) (v : World) (count most : ℕ) → most ≤ 4294967295 → Ends code en v count most → Countable en count
+ends-countable code atBudget v count most l h = tt
+ends-countable code atJobsEnd v count most l h = tt
+ends-countable code (atCall k) v count most l h = omega (arith, l, h .0)
+ends-countable code (atFault f) v count most l h = omega (arith, l, h .0)
+ends-countable code unfit v count most l h = tt
 
 -- the caller's record is put in its place once, whatever stood there
 decided-twice : (m : Machine) (p : Process) (d : Decision) (c q : List ℕ) → decided (withProcess m (m .running) p) d c q ≡ decided m d c q
@@ -213,24 +214,24 @@ module _ (code : List ℕ) (m : Machine) (c q : List ℕ) (budget : ℕ) (accept
   quota-most = split (selects m) (λ t. rw t (omega arith)) (λ t. rw t (omega arith))
 
   module _ (quota : ℕ) (same : quota ≡ quotaOf m budget) (x : Burst) (c₁ q₁ : List ℕ)
-      (e : (x ≡ (bursts quota (view code w)) .burst) × (c₁ ≡ (bursts quota (view code w)) .common) × (q₁ ≡ withPart (m .running) ((bursts quota (view code w)) .own) q)) where
+      (e : Leaves (bursts quota (view code w)) m x q c₁ q₁) where
     -- the machine with the burst's registers
     abbrev pub moved-on : Machine
     moved-on = withProcess m (m .running) (withRegs (proc m (m .running)) (x .regs))
 
-    follows-on : turn code (quotaOf m budget) w ≡ follows (x .end) (world moved-on c₁ q₁) (x .count)
+    follows-on : turn code (quotaOf m budget) w ≡ follows (endSays (x .end)) (world moved-on c₁ q₁) (x .count)
     unfolding turn
-    follows-on = rw (e .0, e .1, e .2, same)
+    follows-on = rw (e .regs, e .count, e .end, e .common, e .private, same)
 
-    ends-at : Ends code (x .end) (world moved-on c₁ q₁) (x .count) (quotaOf m budget)
-    ends-at = rw (e .0, e .1, e .2, same) (ends-well code w able runs budget some)
+    ends-at : Ends code (endSays (x .end)) (world moved-on c₁ q₁) (x .count) (quotaOf m budget)
+    ends-at = rw (e .regs, e .count, e .end, e .common, e .private, same) (ends-well code w able runs budget some)
 
-    pub small-end : Small (x .end)
-    small-end = ends-small code (x .end) (world moved-on c₁ q₁) (x .count) (quotaOf m budget) ends-at
+    pub small-end : Small (endSays (x .end))
+    small-end = ends-small code (endSays (x .end)) (world moved-on c₁ q₁) (x .count) (quotaOf m budget) ends-at
 
-    pub countable-end : budget ≤ 4294967295 → Countable (x .end) (x .count)
+    pub countable-end : budget ≤ 4294967295 → Countable (endSays (x .end)) (x .count)
     countable-end l =
-        ends-countable code (x .end) (world moved-on c₁ q₁) (x .count) (quotaOf m budget) (omega (arith, l, quota-most)) ends-at
+        ends-countable code (endSays (x .end)) (world moved-on c₁ q₁) (x .count) (quotaOf m budget) (omega (arith, l, quota-most)) ends-at
 
     -- a call is told of its caller as it is after the burst
     pub told-on : (who : Caller) → who ≡ callerOf m → movedCaller who (x .regs) ≡ callerOf moved-on
@@ -247,10 +248,10 @@ module _ (code : List ℕ) (m : Machine) (c q : List ℕ) (budget : ℕ) (accept
     unfolding withProcess
     gates-on l e = e
 
-    pub turned-on : (d : Decision) (c₂ q₂ : List ℕ) → decided moved-on d c₂ q₂ ≡ following (x .end) (world moved-on c₁ q₁)
-        → settled (decided m d c₂ q₂) (counted (x .end) (x .count)) ≡ turn code (quotaOf m budget) w
+    pub turned-on : (d : Decision) (c₂ q₂ : List ℕ) → decided moved-on d c₂ q₂ ≡ following (endSays (x .end)) (world moved-on c₁ q₁)
+        → settled (decided m d c₂ q₂) (counted (endSays (x .end)) (x .count)) ≡ turn code (quotaOf m budget) w
     turned-on d c₂ q₂ h =
-        let y : decided m d c₂ q₂ ≡ following (x .end) (world moved-on c₁ q₁) = sym (decided-twice m (withRegs (proc m (m .running)) (x .regs)) d c₂ q₂) ∙ h in
-        ap (λ (o : Outcome). settled o (counted (x .end) (x .count))) y
-        ∙ settles code (x .end) (world moved-on c₁ q₁) (x .count) (quotaOf m budget) ends-at
+        let y : decided m d c₂ q₂ ≡ following (endSays (x .end)) (world moved-on c₁ q₁) = sym (decided-twice m (withRegs (proc m (m .running)) (x .regs)) d c₂ q₂) ∙ h in
+        ap (λ (o : Outcome). settled o (counted (endSays (x .end)) (x .count))) y
+        ∙ settles code (endSays (x .end)) (world moved-on c₁ q₁) (x .count) (quotaOf m budget) ends-at
         ∙ sym follows-on

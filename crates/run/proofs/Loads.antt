@@ -1,129 +1,90 @@
--- Loading is reading where the stores fit; where they do not, 6 stands in 10's place
+-- Loading: the table's checks one after the other, and what is left where they pass
 use mathlib.Core.Path.{_≡_, refl, sym, _∙_, ap}
-use mathlib.Core.Bool.{Bool, true, false, not, _&&_, _||_}
-use mathlib.Core.List.{List, [], _∷_}
-use Prim.Native.Nat.{ℕ, _+_, _*_, _-_, _/_, _%_}
-use lib.Dec.{ltb, eqb}
+use mathlib.Core.Bool.{Bool, true, false, not, _&&_}
+use mathlib.Core.List.{List, []}
+use Prim.Native.Nat.{ℕ}
+use lib.Dec.{eqb}
 use lib.ListN.{length, getD, replicate}
-use borrow.Author.Tests.{eqb-true}
-use Rattle.notation.specs.If.{if}
-use Rattle.notation.specs.Upto.{allTo, laid}
-use Rattle.notation.proofs.Upto.{never, both, laid-whole}
+use borrow.Author.Tests.{eqb-true, not-false}
+use Rattle.notation.specs.Upto.{laid}
+use Rattle.notation.proofs.Upto.{both, laid-whole}
 use Rattle.kernel.proofs.Part.{zeros}
 use Rattle.image.specs.declared.head.Header.{Header}
 use Rattle.image.specs.declared.table.Refusal.{Refusal}
+use Rattle.image.specs.declared.table.Check.{Check}
+use Rattle.image.specs.declared.table.Check.the-variants.{Passed, Failed}
 use Rattle.image.specs.declared.reader.Reading.{Reading}
 use Rattle.image.specs.declared.reader.Reading.the-variants.{Accepted, Refused}
-use Rattle.image.specs.Refusal.{Reply, taken, refused, numberOf, named, refusedBy, _then_}
-use Rattle.image.specs.Block.{wordAt, blocks}
-use Rattle.image.specs.Header.{fields, headerOf, goodHeader, restZero, codeBlocks}
-use Rattle.image.specs.Read.{refuse, refusal1, refusal2, refusal3, refusal4, refusal5, refusal10, firstBad, checks, reading, readSays, codeAt, codeAfter}
+use Rattle.image.specs.Refusal.{Reply, taken, refused, numberOf, named, _then_, checkSays}
+use Rattle.image.specs.Block.{wordAt}
+use Rattle.image.specs.Header.{fields, headerOf}
+use Rattle.image.specs.Read.{refuse, refusal10, imageRows, examined, checks, readSays, codeAt, copied}
+use Rattle.image.proofs.Laws.{passed, over-all, through-all, headerFrom, examined-refuses, examined-accepts, checked-fits, copied-fits}
 use Rattle.machine.specs.State.{fresh}
 use Rattle.machine.specs.Offer.{storesFit}
-use Rattle.machine.specs.declared.Machine.{Machine}
-use Rattle.machine.specs.Load.{Loading, loaded, unloaded, loadedBy, loads, commonAfter, privateAfter, bufferAfter}
-use Rattle.run.specs.declared.answer.Check.{Check}
-use Rattle.run.specs.declared.answer.Check.the-variants.{Passed, Failed}
-use Rattle.run.specs.Said.{world, checkSays}
-use Rattle.run.specs.declared.loading.Loaded.{Loaded}
-use Rattle.run.specs.Loaded.{empty, loadSays, machineAfter, unfits}
+use Rattle.machine.specs.Load.{Loading, loaded, unloaded, loadedBy, loads}
+use Rattle.run.specs.Loaded.{empty, SetUp, setUp, afterSetUp, LoadOutcome, loadLeft, loadOutcome}
 
--- ---- what a reply is
-abbrev isTaken : Reply → Bool
-isTaken (taken vs) = true
-isTaken (refused k vs) = false
+-- ---- rows 1 to 5, then 6, then 10
+module _ (bytes : List ℕ) (x : Reading) (e : readSays x ≡ examined bytes) (lent : Reply) (room : ℕ) where
+  abbrev asked : Reply
+  asked = checks bytes lent room then taken (fields (headerOf bytes))
 
-abbrev values : Reply → List ℕ
-values (taken vs) = vs
-values (refused k vs) = vs
+  abbrev after-5 : Reply
+  after-5 = lent then refusal10 room (wordAt bytes 2)
 
-abbrev headerFrom : List ℕ → Header
-headerFrom l = record { edition = getD l 0 0; length = getD l 1 0; devices = getD l 2 0; variables = getD l 3 0 }
+  pub unread : (r : Refusal) → x ≡ Refused r → readSays x ≡ asked
+  unfolding checks
+  unread r t = rw (examined-refuses bytes x e r after-5 t, t)
 
-refused-so : (x : Reply) (vs : List ℕ) (k : ℕ) (ws : List ℕ) (l : Loading) → x then taken vs ≡ refused k ws → loadedBy x l ≡ unloaded k ws
-refused-so (taken us) vs k ws l e = never (ap isTaken e)
-refused-so (refused j us) vs k ws l e = ap (λ r. loadedBy r l) e
+  module _ (h : Header) (t : x ≡ Accepted h) (k : Check) (f : checkSays k ≡ lent) where
+    pub lent-wrong : (y : Refusal) → k ≡ Failed y → checkSays k then taken (fields h) ≡ asked
+    unfolding checks
+    lent-wrong y u = rw (examined-accepts bytes x e h after-5 t .0, ← f, u)
 
-taken-so : (x : Reply) (vs ws : List ℕ) (l : Loading) → x then taken vs ≡ taken ws → (loadedBy x l ≡ l) × (vs ≡ ws)
-taken-so (taken us) vs ws l e = (refl, ap values e)
-taken-so (refused j us) vs ws l e = never (sym (ap isTaken e))
+    pub lent-right : k ≡ Passed → (j : Check) → checkSays j ≡ refusal10 room (h .length) → checkSays j then taken (fields h) ≡ asked
+    unfolding checks
+    lent-right u j g =
+        let p = examined-accepts bytes x e h after-5 t in
+        let n : wordAt bytes 2 ≡ h .length = ap (λ (z : Header). z .length) (p .1) in
+        let a : after-5 ≡ checkSays j = rw (← f, u, n, ← g) in
+        rw (p .0, a) (ap (λ (l : List ℕ). checkSays j then taken l) (sym (ap fields (p .1))))
 
--- ---- the table's checks, where a store does not fit
-row : (a b c d e f g : Bool) (k : ℕ) (vs : List ℕ) → unfits ((refuse 1 a then if b (refused 2 (k ∷ [])) (taken []) then refuse 3 c then refuse 4 d then refuse 5 e then taken [] then refuse 10 f) then taken vs) ≡ (refuse 1 a then if b (refused 2 (k ∷ [])) (taken []) then refuse 3 c then refuse 4 d then refuse 5 e then refused 6 [] then refuse 10 g)
-row true b c d e f g k vs = refl
-row false true c d e f g k vs = refl
-row false false true d e f g k vs = refl
-row false false false true e f g k vs = refl
-row false false false false true f g k vs = refl
-row false false false false false true g k vs = refl
-row false false false false false false g k vs = refl
+-- ---- what is left
+loaded-by : (x : Reply) (vs : List ℕ) (l : Loading) → taken vs ≡ x → loadedBy x l ≡ l
+loaded-by x vs l e = rw (← e)
 
-pub unfit : (bytes : List ℕ) (room : ℕ) → unfits (reading bytes 0) ≡ checks bytes (refused 6 []) room
-unfolding checks refusal1 refusal2 refusal3 refusal4 refusal5 refusal10
-unfit bytes room =
-    let n = wordAt bytes 2 in
-    row (eqb (length bytes) 0 || not (eqb (length bytes % 512) 0)) (ltb (firstBad bytes) (blocks bytes)) (not (goodHeader (headerOf bytes) && restZero bytes)) (not (eqb (length bytes / 512) (1 + codeBlocks n))) (not (allTo (λ k. eqb (codeAt bytes (n + k)) 0) (254 * codeBlocks n - n))) (ltb 0 n) (ltb room n) (firstBad bytes) (fields (headerOf bytes))
+unloaded-by : (x : Reply) (vs : List ℕ) (k : ℕ) (ws : List ℕ) (l : Loading) → x then taken vs ≡ refused k ws → loadedBy x l ≡ unloaded k ws
+unloaded-by (taken us) vs k ws l e = ap (λ r. loadedBy r l) (over-all (taken us) vs k ws (taken us) e)
+unloaded-by (refused j us) vs k ws l e = ap (λ r. loadedBy r l) e
 
-module _ (bytes : List ℕ) (x : Reading) (e : readSays x ≡ reading bytes 0) (room : ℕ) where
-  pub unfit-taken : (h : Header) → x ≡ Accepted h → refused 6 [] ≡ checks bytes (refused 6 []) room
-  unfit-taken h t = rw (← e, t) at (unfit bytes room)
+module _ (bytes c q b : List ℕ) (x : Reading) (e : readSays x ≡ (checks bytes (refuse 6 (not (storesFit c q))) (length b) then taken (fields (headerOf bytes)))) where
+  abbrev asks : Reply
+  asks = checks bytes (refuse 6 (not (storesFit c q))) (length b)
 
-  pub unfit-refused : (r : Refusal) → x ≡ Refused r → unfits (refusedBy r) ≡ checks bytes (refused 6 []) room
-  unfit-refused r t = rw (← e, t) at (unfit bytes room)
-
-failed : (t : Bool) (k : ℕ) (vs : List ℕ) → refused k vs ≡ refuse 6 (not t) → t ≡ false
-failed false k vs e = refl
-failed true k vs e = never (sym (ap isTaken e))
-
-passed : (t : Bool) → taken [] ≡ refuse 6 (not t) → t ≡ true
-passed true e = refl
-passed false e = never (ap isTaken e)
-
-pub stores-fit : (k : Check) (c q : ℕ) → checkSays k ≡ refuse 6 (not (eqb c 2048 && eqb q 20480)) → k ≡ Passed → (c ≡ 2048) × (q ≡ 20480)
-stores-fit k c q e t =
-    let p = both (eqb c 2048) (eqb q 20480) (passed (eqb c 2048 && eqb q 20480) (rw t at e)) in
-    (eqb-true c 2048 (p .0), eqb-true q 20480 (p .1))
-
-module _ (bytes c q b : List ℕ) where
-  pub load-unfit : (k : Check) (x r : Refusal) → checkSays k ≡ refuse 6 (not (storesFit c q)) → k ≡ Failed x → ((room : ℕ) → refusedBy r ≡ checks bytes (refused 6 []) room) → loads bytes c q b ≡ unloaded (numberOf r) (named r)
+  pub load-refused : (r : Refusal) → x ≡ Refused r → record { reply = readSays x; after = setUp (fresh empty) b c q } ≡ loadOutcome bytes b c q
   unfolding loads
-  load-unfit k x r e t h =
-      let z = failed (storesFit c q) (numberOf x) (named x) (rw t at e) in
-      rw (z, ← h (length b))
+  load-refused r t = rw (t, unloaded-by asks (fields (headerOf bytes)) (numberOf r) (named r) _ (rw t at (sym e)))
 
-  module _ (fit : (length c ≡ 2048) × (length q ≡ 20480)) (x : Reading) (e : readSays x ≡ reading bytes (length b)) where
-    pub load-refused : (r : Refusal) → x ≡ Refused r → loads bytes c q b ≡ unloaded (numberOf r) (named r)
-    unfolding loads
-    load-refused r t = rw (fit .0, fit .1) (refused-so (checks bytes (taken []) (length b)) (fields (headerOf bytes)) (numberOf r) (named r) _ (rw t at (sym e)))
+  pub load-taken : (h : Header) → x ≡ Accepted h → record { reply = readSays x; after = afterSetUp bytes h b c q } ≡ loadOutcome bytes b c q
+  unfolding loads
+  load-taken h t =
+      let p = through-all asks (fields (headerOf bytes)) (fields h) (taken []) (rw t at (sym e)) in
+      let g : headerOf bytes ≡ h = ap headerFrom (p .2) in
+      let f = checked-fits bytes (refuse 6 (not (storesFit c q))) (length b) (p .0 .0) (p .0 .1) in
+      let s = both (eqb (length c) 2048) (eqb (length q) 20480) (not-false (storesFit c q) (passed 6 (not (storesFit c q)) (f .0 .0) (f .0 .1))) in
+      rw (
+        t,
+        ← g,
+        loaded-by asks (p .0 .0) _ (p .0 .1),
+        copied-fits bytes (wordAt bytes 2) b (f .2) (f .1),
+        eqb-true (length c) 2048 (s .0),
+        eqb-true (length q) 20480 (s .1),
+      )
 
-    pub load-taken : (h : Header) → x ≡ Accepted h → loads bytes c q b ≡ loaded (record { machine = fresh h; common = replicate (length c) 0; private = replicate (length q) 0 }) (laid (codeAt bytes) (wordAt bytes 2) b)
-    unfolding loads
-    load-taken h t =
-        let p = taken-so (checks bytes (taken []) (length b)) (fields (headerOf bytes)) (fields h) _ (rw t at (sym e)) in
-        let g : headerOf bytes ≡ h = ap headerFrom (p .1) in
-        rw (fit .0, fit .1, ← g) (p .0)
-
-module _ (bytes b : List ℕ) (x : Reading) (e : readSays x ≡ reading bytes (length b)) where
-  pub kept : (r : Refusal) → x ≡ Refused r → codeAfter bytes b ≡ b
-  kept r t = rw (← e, t)
-
-  pub copied : (h : Header) → x ≡ Accepted h → codeAfter bytes b ≡ laid (codeAt bytes) (wordAt bytes 2) b
-  copied h t = rw (← e, t)
+  pub load-left : (h : Header) → x ≡ Accepted h → (s : SetUp) → s ≡ afterSetUp bytes h b c q → record { reply = taken (fields h); after = s } ≡ loadOutcome bytes b c q
+  load-left h t s e′ = rw e′ (rw t at (load-taken h t))
 
 -- ---- clearing
 pub all-zero : (l : List ℕ) → laid (λ k. 0) (length l) l ≡ replicate (length l) 0
 all-zero l = laid-whole (λ k. 0) (length l) l refl ∙ zeros 0 (length l)
-
--- ---- what the code answers, where an offer to load is refused and where it is taken
-abbrev pub Says : Loaded → Loading → List ℕ → List ℕ → List ℕ → List ℕ → List ℕ → List ℕ → Type 0
-Says x l c q b c₀ q₀ b₀ = (loadSays x c q b ≡ l) × (c ≡ commonAfter l c₀) × (q ≡ privateAfter l q₀) × (b ≡ bufferAfter l b₀) × (x .machine ≡ machineAfter l)
-
-pub says-refused : (x : Loaded) (r : Refusal) (l : Loading) (c q b b₀ : List ℕ) → x ≡ record { machine = fresh empty; check = Failed r } → l ≡ unloaded (numberOf r) (named r) → b ≡ b₀ → Says x l c q b c q b₀
-says-refused x r l c q b b₀ t e h = rw (t, e) (refl, refl, refl, h, refl)
-
--- where a store does not fit
-pub says-unfit : (bytes c q b : List ℕ) (k : Check) (x : Refusal) (y : Loaded) (r : Refusal) → checkSays k ≡ refuse 6 (not (storesFit c q)) → k ≡ Failed x → ((room : ℕ) → refusedBy r ≡ checks bytes (refused 6 []) room) → y ≡ record { machine = fresh empty; check = Failed r } → Says y (loads bytes c q b) c q b c q b
-says-unfit bytes c q b k x y r e t h i = says-refused y r _ c q b b i (load-unfit bytes c q b k x r e t h) refl
-
-pub says-taken : (m : Machine) (l : Loading) (c q b c₁ q₁ b₁ c₀ q₀ b₀ : List ℕ) → l ≡ loaded (world m c₁ q₁) b₁ → c ≡ c₁ → q ≡ q₁ → b ≡ b₁ → Says (record { machine = m; check = Passed }) l c q b c₀ q₀ b₀
-says-taken m l c q b c₁ q₁ b₁ c₀ q₀ b₀ e h i j = rw (e, h, i, j) (refl, refl, refl, refl, refl)

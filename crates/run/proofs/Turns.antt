@@ -94,7 +94,7 @@ module _ (code : List ℕ) (w : World) (able : Able code w) (runs : w .machine .
     turns-on j c k =
         let x : Bursted = goesOn (c + 1) k (moved v r (d .common) (d .own)) in
         rw
-        (burst-step (next r) e c k, j, put-view w r (d .common) (d .own) few own-long room code, put-put w r (d .common) (d .own) few own-long room (x .burst .regs) (x .common) (x .own))
+        (burst-step (next r) e c k, j, put-view w r (d .common) (d .own) few own-long room code, put-put w r (d .common) (d .own) few own-long room (x .regs) (x .common) (x .own))
 
 -- ---- a turn is so many steps
 abbrev Turned : List ℕ → ℕ → ℕ → World → Type 0

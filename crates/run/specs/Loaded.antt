@@ -1,36 +1,47 @@
--- What the code answers to an offer to load, in the words of the definitions
+-- What loading answers and leaves, in the words of the definitions
 use mathlib.Core.List.{List, []}
 use Prim.Native.Nat.{ℕ}
-use lib.Dec.{eqb}
-use Rattle.notation.specs.If.{if}
+use lib.ListN.{length, replicate}
 use Rattle.image.specs.declared.head.Header.{Header}
-use Rattle.image.specs.Refusal.{Reply, taken, refused, numberOf, named}
+use Rattle.image.specs.Refusal.{Reply, taken, refused}
+use Rattle.image.specs.Header.{fields, headerOf}
+use Rattle.image.specs.Read.{readSays, copied}
 use Rattle.machine.specs.declared.Machine.{Machine}
 use Rattle.machine.specs.State.{fresh}
-use Rattle.machine.specs.Load.{Loading, loaded, unloaded}
-use Rattle.run.specs.declared.answer.Check.{Check}
-use Rattle.run.specs.declared.answer.Check.the-variants.{Passed, Failed}
+use Rattle.machine.specs.Load.{Loading, loaded, unloaded, loads}
 use Rattle.run.specs.declared.loading.Loaded.{Loaded}
-use Rattle.run.specs.Said.{world}
 
--- the cases of the code; a refusal names its number and its values
-abbrev pub loadedIf : Check → Loading → Loading
-loadedIf Passed x = x
-loadedIf (Failed r) x = unloaded (numberOf r) (named r)
+-- ---- the fresh machine of a header, the code buffer and both stores cleared
+pub record SetUp : Type 0 where
+  pub machine : Machine
+  pub code : List ℕ
+  pub common : List ℕ
+  pub private : List ℕ
 
--- what the code gives, with the stores and the code buffer after it
-abbrev pub loadSays : Loaded → List ℕ → List ℕ → List ℕ → Loading
-loadSays x common private code = loadedIf (x .check) (loaded (world (x .machine) common private) code)
+abbrev pub setUp : Machine → List ℕ → List ℕ → List ℕ → SetUp
+setUp m code common private = record { machine = m; code = code; common = common; private = private }
 
--- where the image is refused, the machine beside the refusal is the fresh one of an empty header
+abbrev pub afterSetUp : List ℕ → Header → List ℕ → List ℕ → List ℕ → SetUp
+afterSetUp bytes h code common private =
+    setUp (fresh h) (copied bytes (h .length) code) (replicate (length common) 0) (replicate (length private) 0)
+
+-- ---- the answer, the machine, the code buffer and both stores after an offer to load
+pub record LoadOutcome : Type 0 where
+  pub reply : Reply
+  pub after : SetUp
+
+abbrev pub loadGives : Loaded → List ℕ → List ℕ → List ℕ → LoadOutcome
+loadGives x code common private = record { reply = readSays (x .reading); after = setUp (x .machine) code common private }
+
+-- where the image is refused, the machine beside the refusal is the fresh one of an empty header, and nothing changes
 abbrev pub empty : Header
 empty = record { edition = 0; length = 0; devices = 0; variables = 0 }
 
-abbrev pub machineAfter : Loading → Machine
-machineAfter (loaded w code) = w .machine
-machineAfter (unloaded k vs) = fresh empty
+abbrev pub loadLeft : List ℕ → List ℕ → List ℕ → List ℕ → Loading → LoadOutcome
+loadLeft bytes code common private (loaded w c) =
+    record { reply = taken (fields (headerOf bytes)); after = setUp (w .machine) c (w .common) (w .private) }
+loadLeft bytes code common private (unloaded k vs) =
+    record { reply = refused k vs; after = setUp (fresh empty) code common private }
 
--- 6 in 10's place: what reading with no room says where a store does not fit
-abbrev pub unfits : Reply → Reply
-unfits (taken vs) = refused 6 []
-unfits (refused k vs) = if (eqb k 10) (refused 6 []) (refused k vs)
+abbrev pub loadOutcome : List ℕ → List ℕ → List ℕ → List ℕ → LoadOutcome
+loadOutcome bytes code common private = loadLeft bytes code common private (loads bytes common private code)

@@ -5,23 +5,27 @@ use mathlib.Core.List.{List}
 use Prim.Native.Nat.{ℕ, _+_, _≤_, _<_}
 use lib.ListN.{length}
 use Rattle.notation.specs.If.{if}
+use Rattle.machine.specs.declared.Gate.{Gate}
+use Rattle.machine.specs.declared.Process.{Process}
 use Rattle.machine.specs.declared.Regs.{Regs}
 use Rattle.machine.specs.declared.Machine.{Machine}
-use Rattle.machine.specs.State.{nobody, withRegs}
-use Rattle.machine.specs.Store.{World}
+use Rattle.machine.specs.State.{nobody, proc, withRegs}
+use Rattle.machine.specs.Store.{World, withPart}
 use Rattle.machine.specs.Sound.{sound}
 use Rattle.machine.specs.Call.{stops}
-use Rattle.machine.specs.Step.{Ended, onward, idle, starting, stopped, Stepped, stepped, selected}
+use Rattle.machine.specs.Step.{view, Ended, onward, idle, starting, stopped, Stepped, stepped, selected}
 use Rattle.machine.specs.Offer.{storesFit}
 use Rattle.promises.specs.SoundKept.{Shaped}
-use Rattle.engine.specs.declared.burst.End.{End as BurstEnd}
-use Rattle.engine.specs.declared.burst.End.the-variants.{Budget, Call, Fault, Job, Unfit}
+use Rattle.engine.specs.declared.burst.Burst.{Burst}
+use Rattle.engine.specs.Burst.{Ending, atBudget, atCall, atFault, atJobsEnd, unfit, Bursted, endSays, bursts}
+use Rattle.kernel.specs.declared.answer.Decision.{Decision}
 use Rattle.kernel.specs.declared.caller.Caller.{Caller}
-use Rattle.kernel.specs.Did.{Outcome, outcome, able, callerOf, traps}
+use Rattle.kernel.specs.Did.{Outcome, outcome, able, callerOf, decided, traps}
 use Rattle.run.specs.declared.answer.Ended.{Ended as End}
 use Rattle.run.specs.declared.answer.Ended.the-variants.{Onward, Idle, Starting, Stopped}
 use Rattle.run.specs.declared.answer.Ran.{Ran}
-use Rattle.run.specs.Turn.{quotaOf}
+use Rattle.run.specs.declared.turn.Turned.{Turned}
+use Rattle.run.specs.Turn.{quotaOf, turn}
 use Rattle.run.specs.Said.{world, endOf}
 
 abbrev pub ran : Ran → List ℕ → List ℕ → Stepped
@@ -56,36 +60,48 @@ pub record Going (who : Caller) (quota : ℕ) (code c q : List ℕ) : Type 0 whe
   pub accepted : Accepted code (world machine c q)
   pub runs : machine .running < nobody
 
+-- ---- a burst of the running process of any machine in which process i, of this record, runs
+pub record Leaves (b : Bursted) (m : Machine) (x : Burst) (q c′ q′ : List ℕ) : Type 0 where
+  pub regs : x .regs ≡ b .regs
+  pub count : x .count ≡ b .count
+  pub end : endSays (x .end) ≡ b .ending
+  pub common : c′ ≡ b .common
+  pub private : q′ ≡ withPart (m .running) (b .own) q
+
+abbrev pub BurstOf : ℕ → Process → List ℕ → ℕ → Burst → List ℕ → List ℕ → List ℕ → List ℕ → Type 0
+BurstOf i p code quota x c q c′ q′ =
+    (m : Machine) → m .running ≡ i → proc m i ≡ p → Leaves (bursts quota (view code (world m c q))) m x q c′ q′
+
 -- ---- what follows a burst that led to the world v, before the selection
-abbrev pub following : BurstEnd → World → Outcome
-following Budget v = record { machine = v .machine; common = v .common; private = v .private; end = onward }
-following Job v = record { machine = v .machine; common = v .common; private = v .private; end = onward }
-following (Call k) v = traps v k
-following (Fault f) v = outcome v (stops f)
-following Unfit v = record { machine = v .machine; common = v .common; private = v .private; end = stopped }
+abbrev pub following : Ending → World → Outcome
+following atBudget v = record { machine = v .machine; common = v .common; private = v .private; end = onward }
+following atJobsEnd v = record { machine = v .machine; common = v .common; private = v .private; end = onward }
+following (atCall k) v = traps v k
+following (atFault f) v = outcome v (stops f)
+following unfit v = record { machine = v .machine; common = v .common; private = v .private; end = stopped }
 
 -- a fault has a number of the table
-abbrev pub Small : BurstEnd → Type 0
-Small Budget = Unit {0}
-Small Job = Unit {0}
-Small (Call k) = Unit {0}
-Small (Fault f) = f ≤ 9
-Small Unfit = Unit {0}
+abbrev pub Small : Ending → Type 0
+Small atBudget = Unit {0}
+Small atJobsEnd = Unit {0}
+Small (atCall k) = Unit {0}
+Small (atFault f) = f ≤ 9
+Small unfit = Unit {0}
 
 -- a call and a fault are not counted by their burst
-abbrev pub counted : BurstEnd → ℕ → ℕ
-counted Budget k = k
-counted Job k = k
-counted (Call c) k = k + 1
-counted (Fault f) k = k + 1
-counted Unfit k = 0
+abbrev pub counted : Ending → ℕ → ℕ
+counted atBudget k = k
+counted atJobsEnd k = k
+counted (atCall c) k = k + 1
+counted (atFault f) k = k + 1
+counted unfit k = 0
 
-abbrev pub Countable : BurstEnd → ℕ → Type 0
-Countable Budget k = Unit {0}
-Countable Job k = Unit {0}
-Countable (Call c) k = k < 4294967295
-Countable (Fault f) k = k < 4294967295
-Countable Unfit k = Unit {0}
+abbrev pub Countable : Ending → ℕ → Type 0
+Countable atBudget k = Unit {0}
+Countable atJobsEnd k = Unit {0}
+Countable (atCall c) k = k < 4294967295
+Countable (atFault f) k = k < 4294967295
+Countable unfit k = Unit {0}
 
 -- ---- the selection, but for a stop
 abbrev pub isStopped : Ended → Bool
@@ -103,3 +119,15 @@ settled o k =
 pub record Callable (w : World) : Type 0 where
   pub stores : storesFit (w .common) (w .private) ≡ true
   pub able : able (callerOf (w .machine)) ≡ true
+
+-- ---- a turn of the running process of any accepted machine of which it is told
+abbrev pub TurnOf : Caller → ℕ → List Process → List Gate → List ℕ → Turned → List ℕ → List ℕ → List ℕ → List ℕ → Type 0
+TurnOf who quota processes gates code x c q c′ q′ =
+    (m : Machine) (budget : ℕ)
+    → who ≡ callerOf m
+    → m .processes ≡ processes
+    → m .gates ≡ gates
+    → quota ≡ quotaOf m budget
+    → 0 < budget
+    → Accepted code (world m c q)
+    → settled (decided m (x .decision) c′ q′) (x .count) ≡ turn code quota (world m c q)

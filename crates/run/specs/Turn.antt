@@ -9,9 +9,7 @@ use Rattle.machine.specs.Store.{World, withPart}
 use Rattle.machine.specs.Classes.{selects}
 use Rattle.machine.specs.Call.{kernel}
 use Rattle.machine.specs.Step.{view, onward, stopped, Stepped, stepped, selected, halted, called}
-use Rattle.engine.specs.declared.burst.End.{End}
-use Rattle.engine.specs.declared.burst.End.the-variants.{Budget, Call, Fault, Job, Unfit}
-use Rattle.engine.specs.Burst.{Bursted, bursts}
+use Rattle.engine.specs.Burst.{Ending, atBudget, atCall, atFault, atJobsEnd, unfit, Bursted, bursts}
 
 -- the world with other registers of the running process, and other words of the common store and of that process's part
 abbrev pub put : World → Regs → List ℕ → List ℕ → World
@@ -24,15 +22,15 @@ abbrev pub later : ℕ → Stepped → Stepped
 later k s = stepped (s .world) (s .ended) (k + s .count)
 
 -- after k instructions that led to the world v: the selection; the kernel call; the stop. From a sound state none is unfit
-abbrev pub follows : End → World → ℕ → Stepped
-follows Budget v k = stepped (selected v) onward k
-follows Job v k = stepped (selected v) onward k
-follows (Call c) v k = later k (called v (kernel v c))
-follows (Fault f) v k = later k (halted v f)
-follows Unfit v k = stepped v stopped 0
+abbrev pub follows : Ending → World → ℕ → Stepped
+follows atBudget v k = stepped (selected v) onward k
+follows atJobsEnd v k = stepped (selected v) onward k
+follows (atCall c) v k = later k (called v (kernel v c))
+follows (atFault f) v k = later k (halted v f)
+follows unfit v k = stepped v stopped 0
 
 abbrev pub turned : World → Bursted → Stepped
-turned w x = follows (x .burst .end) (put w (x .burst .regs) (x .common) (x .own)) (x .burst .count)
+turned w x = follows (x .ending) (put w (x .regs) (x .common) (x .own)) (x .count)
 
 unfoldable pub turn : List ℕ → ℕ → World → Stepped
 turn code quota w = turned w (bursts quota (view code w))

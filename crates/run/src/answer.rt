@@ -1,7 +1,7 @@
 // What an offer is answered.
 ghost use mathlib.Core.Path.{_≡_};
-ghost use Rattle.run.specs.declared.answer.Ended.the-variants.{Onward};
-ghost use Rattle.run.specs.declared.answer.Reply.the-variants.{Did, Refused};
+ghost use Rattle.run.specs.Said.{replyOf};
+use image::Check;
 use image::Refusal;
 use machine::Machine;
 
@@ -25,30 +25,24 @@ pub struct Offered {
     pub count: u32,
 }
 
-// What one check answers.
-pub enum Check {
-    Passed,
-    Failed(Refusal),
-}
-
-// A refusal changes nothing.
-pub(crate) fn refused(m: Machine, r: Refusal) -> Offered
-    ensures { λ x. ⌜ x ≡ record { machine = m; reply = Refused r; count = 0 } ⌝ }
+// A check as a reply: passed, there is nothing to tell.
+fn replied(check: Check) -> Reply
+    ensures { λ r. ⌜ r ≡ replyOf check ⌝ }
 {
-    Offered {
-        machine: m,
-        reply: Reply::Refused(r),
-        count: 0,
+    match check {
+        Check::Passed => Reply::Did(Ended::Onward),
+        Check::Failed(r) => Reply::Refused(r),
     }
 }
 
-// An event is taken, and counts no instruction.
-pub(crate) fn taken(m: Machine) -> Offered
-    ensures { λ x. ⌜ x ≡ record { machine = m; reply = Did Onward; count = 0 } ⌝ }
+// What an event is answered, with the machine after it, and what a refused offer is: no instruction is counted.
+pub(crate) fn answered(machine: Machine, check: Check) -> Offered
+    ensures { λ x. ⌜ x ≡ record { machine = machine; reply = replyOf check; count = 0 } ⌝ }
 {
+    let reply = replied(check);
     Offered {
-        machine: m,
-        reply: Reply::Did(Ended::Onward),
+        machine,
+        reply,
         count: 0,
     }
 }

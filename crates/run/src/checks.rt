@@ -3,17 +3,15 @@ ghost use mathlib.Core.Path.{_≡_};
 ghost use mathlib.Core.Bool.{_&&_, not};
 ghost use lib.Dec.{eqb};
 ghost use Prim.Native.Nat.{ℕ};
-ghost use Rattle.image.specs.Refusal.{_then_};
+ghost use Rattle.image.specs.Refusal.{_then_, checkSays};
 ghost use Rattle.image.specs.Read.{refuse};
 ghost use Rattle.machine.specs.Offer.{refusal7, refusal8, refusal9};
-ghost use Rattle.promises.specs.SoundKept.{Shaped};
-ghost use Rattle.run.specs.Said.{checkSays};
-use crate::answer::Check;
+use image::Check;
 use image::Refusal;
 use machine::Machine;
 
 // 6: a lent store has the wrong length.
-pub(crate) fn check_stores(common: usize, private: usize) -> Check
+pub fn check_stores(common: usize, private: usize) -> Check
     ensures { λ r. ⌜ checkSays r ≡ refuse 6 (not (eqb common 2048 && eqb private 20480)) ⌝ }
 {
     let fit = (common == Machine::COMMON) & (private == Machine::PRIVATE);
@@ -25,7 +23,7 @@ pub(crate) fn check_stores(common: usize, private: usize) -> Check
 }
 
 // 6: a lent store has the wrong length, or the code is not n words.
-pub(crate) fn check_lent(common: usize, private: usize, code: usize, n: usize) -> Check
+fn check_lent(common: usize, private: usize, code: usize, n: usize) -> Check
     ensures { λ r. ⌜ checkSays r ≡ refuse 6 (not ((eqb common 2048 && eqb private 20480) && eqb code n)) ⌝ }
 {
     let fit = (common == Machine::COMMON) & (private == Machine::PRIVATE) & (code == n);
@@ -36,14 +34,22 @@ pub(crate) fn check_lent(common: usize, private: usize, code: usize, n: usize) -
     }
 }
 
-// 7: state not sound; 8: machine stopped. The types say of every machine how long its arrays are.
-pub(crate) fn check_state(m: Machine) -> Check
-    ensures { λ r. ⌜ (checkSays r ≡ (refusal7 m then refusal8 m)) × Shaped m ⌝ }
+// 7: state not sound.
+fn check_sound(m: Machine) -> Check
+    ensures { λ r. ⌜ checkSays r ≡ refusal7 m ⌝ }
 {
     let good = sound::is_sound(m);
-    if !good {
-        return Check::Failed(Refusal::Unsound);
+    if good {
+        Check::Passed
+    } else {
+        Check::Failed(Refusal::Unsound)
     }
+}
+
+// 8: machine stopped.
+fn check_going(m: Machine) -> Check
+    ensures { λ r. ⌜ checkSays r ≡ refusal8 m ⌝ }
+{
     if m.stop == Machine::GOING {
         Check::Passed
     } else {
@@ -51,8 +57,30 @@ pub(crate) fn check_state(m: Machine) -> Check
     }
 }
 
+// 7 and 8, in the table's order: the first refusal returns at once.
+pub(crate) fn check_machine(m: Machine) -> Check
+    ensures { λ r. ⌜ checkSays r ≡ (refusal7 m then refusal8 m) ⌝ }
+{
+    let sound = check_sound(m);
+    let Check::Passed = sound else {
+        return sound;
+    };
+    check_going(m)
+}
+
+// 6 to 8, in the table's order, for a run.
+pub(crate) fn check_run(m: Machine, code: usize, common: usize, private: usize) -> Check
+    ensures { λ r. ⌜ checkSays r ≡ (refuse 6 (not ((eqb common 2048 && eqb private 20480) && eqb code (m .length))) then refusal7 m then refusal8 m) ⌝ }
+{
+    let lent = check_lent(common, private, code, m.length as usize);
+    let Check::Passed = lent else {
+        return lent;
+    };
+    check_machine(m)
+}
+
 // 9: bad done event: status above 6, no such device, device not busy.
-pub(crate) fn check_done(m: Machine, d: u16, status: u16) -> Check
+fn check_done(m: Machine, d: u16, status: u16) -> Check
     ensures { λ r. ⌜ checkSays r ≡ refusal9 m d status ⌝ }
 {
     let out = (6 < status) | (4 < d);
@@ -65,4 +93,23 @@ pub(crate) fn check_done(m: Machine, d: u16, status: u16) -> Check
     } else {
         Check::Failed(Refusal::Done)
     }
+}
+
+// 6 to 9, in the table's order, for a done event.
+pub(crate) fn check_event(m: Machine, d: u16, status: u16, common: usize, private: usize) -> Check
+    ensures { λ r. ⌜ checkSays r ≡ (refuse 6 (not (eqb common 2048 && eqb private 20480)) then refusal7 m then refusal8 m then refusal9 m d status) ⌝ }
+{
+    let stores = check_stores(common, private);
+    let Check::Passed = stores else {
+        return stores;
+    };
+    let sound = check_sound(m);
+    let Check::Passed = sound else {
+        return sound;
+    };
+    let going = check_going(m);
+    let Check::Passed = going else {
+        return going;
+    };
+    check_done(m, d, status)
 }

@@ -5,14 +5,16 @@ mod doors;
 mod loading;
 mod turn;
 
-pub use answer::Check;
 pub use answer::Ended;
 pub use answer::Offered;
 pub use answer::Reply;
+pub use checks::check_stores;
 pub use doors::bell;
 pub use doors::done;
 pub use doors::run;
 pub use doors::step;
 pub use doors::tick;
 pub use loading::Loaded;
+pub use loading::check_load;
 pub use loading::load;
+pub use loading::set_up;

@@ -1,29 +1,27 @@
 // Loading: an image becomes the fresh machine, with its code in the buffer and both stores cleared; or it is refused.
 ghost use mathlib.Core.Path.{_≡_};
-ghost use Prim.Native.Nat.{ℕ};
+ghost use mathlib.Core.Bool.{_&&_, not};
+ghost use lib.Dec.{eqb};
 ghost use lib.ListN.{length, replicate};
-ghost use mathlib.Core.List.{[]};
-ghost use Rattle.image.specs.Refusal.{refused, refusedBy};
-ghost use Rattle.image.specs.Read.{checks};
+ghost use Rattle.image.specs.Refusal.{taken, _then_};
+ghost use Rattle.image.specs.Header.{fields, headerOf};
+ghost use Rattle.image.specs.Read.{refuse, checks, readSays};
 ghost use Rattle.machine.specs.State.{fresh};
-ghost use Rattle.machine.specs.Load.{loads, commonAfter, privateAfter, bufferAfter};
-ghost use Rattle.run.specs.declared.answer.Check.the-variants.{Failed};
-ghost use Rattle.run.specs.Loaded.{empty, loadSays, machineAfter, unfits};
-use crate::answer::Check;
+ghost use Rattle.run.specs.Loaded.{empty, setUp, afterSetUp, loadGives, loadOutcome};
 use crate::checks::check_stores;
+use image::Check;
 use image::Header;
 use image::Reading;
-use image::Refusal;
 use machine::Machine;
 
-// The fresh machine where the check has passed; where not, the machine says nothing.
+// The header, and the fresh machine; where the image is refused, the machine says nothing.
 pub struct Loaded {
     pub machine: Machine,
-    pub check: Check,
+    pub reading: Reading,
 }
 
-fn unloaded(r: Refusal) -> Loaded
-    ensures { λ x. ⌜ x ≡ record { machine = fresh empty; check = Failed r } ⌝ }
+fn unloaded(reading: Reading) -> Loaded
+    ensures { λ x. ⌜ x ≡ record { machine = fresh empty; reading = reading } ⌝ }
 {
     let empty = Header {
         edition: 0,
@@ -33,7 +31,7 @@ fn unloaded(r: Refusal) -> Loaded
     };
     Loaded {
         machine: Machine::fresh(empty),
-        check: Check::Failed(r),
+        reading,
     }
 }
 
@@ -47,44 +45,46 @@ fn clear(words: &mut [u16])
     }
 }
 
-// 10 for want of room is 6 where a store does not fit.
-fn lent_for_short(r: Refusal) -> Refusal
-    ensures { λ x. ⌜ refusedBy x ≡ unfits (refusedBy r) ⌝ }
+// 1 to 6 and 10, in the table's order: the first refusal returns at once.
+pub fn check_load(image: &[u8], code: usize, common: usize, private: usize) -> Reading
+    ensures { λ r. ⌜ readSays r ≡ (checks (now (image .entry)) (refuse 6 (not (eqb common 2048 && eqb private 20480))) code then taken (fields (headerOf (now (image .entry))))) ⌝ }
 {
-    let k = image::number(r);
-    if k == 10 { Refusal::Lent } else { r }
+    let examined = image::examine(image);
+    let Reading::Accepted(header) = examined else {
+        return examined;
+    };
+    let stores = check_stores(common, private);
+    let Check::Passed = stores else {
+        return image::accepted(stores, header);
+    };
+    let room = image::check_room(code, header.length as usize);
+    image::accepted(room, header)
 }
 
-// Where a store does not fit, 6 stands before 10: the image is read with no room for its code, to see 1 to 5.
-fn unfit(image: &[u8]) -> Refusal
-    ensures { λ r. ⌜ ((room : ℕ) → refusedBy r ≡ checks (now (image .entry)) (refused 6 []) room) ⌝ }
+// The fresh machine of a header, with the image's code in the buffer, where it fits, and both stores cleared.
+pub fn set_up(
+    image: &[u8],
+    header: Header,
+    code: &mut [u16],
+    common: &mut [u16],
+    private: &mut [u16],
+) -> Machine
+    ensures { λ m. ⌜ setUp m (now (code .exit)) (now (common .exit)) (now (private .exit)) ≡ afterSetUp (now (image .entry)) header (now (code .entry)) (now (common .entry)) (now (private .entry)) ⌝ }
 {
-    let mut none = [0u16; 1];
-    let reading = image::read(image, &mut none[..0]);
-    match reading {
-        Reading::Accepted(_) => Refusal::Lent,
-        Reading::Refused(r) => lent_for_short(r),
-    }
+    image::copy_code(image, header.length, code);
+    clear(common);
+    clear(private);
+    Machine::fresh(header)
 }
 
 // Loading needs a code buffer of at least n words, and touches only the first n.
 pub fn load(image: &[u8], code: &mut [u16], common: &mut [u16], private: &mut [u16]) -> Loaded
-    ensures { λ r. ⌜ (loadSays r (now (common .exit)) (now (private .exit)) (now (code .exit)) ≡ loads (now (image .entry)) (now (common .entry)) (now (private .entry)) (now (code .entry))) × (now (common .exit) ≡ commonAfter (loads (now (image .entry)) (now (common .entry)) (now (private .entry)) (now (code .entry))) (now (common .entry))) × (now (private .exit) ≡ privateAfter (loads (now (image .entry)) (now (common .entry)) (now (private .entry)) (now (code .entry))) (now (private .entry))) × (now (code .exit) ≡ bufferAfter (loads (now (image .entry)) (now (common .entry)) (now (private .entry)) (now (code .entry))) (now (code .entry))) × (r .machine ≡ machineAfter (loads (now (image .entry)) (now (common .entry)) (now (private .entry)) (now (code .entry)))) ⌝ }
+    ensures { λ r. ⌜ loadGives r (now (code .exit)) (now (common .exit)) (now (private .exit)) ≡ loadOutcome (now (image .entry)) (now (code .entry)) (now (common .entry)) (now (private .entry)) ⌝ }
 {
-    let stores = check_stores(common.len(), private.len());
-    let Check::Passed = stores else {
-        return unloaded(unfit(image));
+    let reading = check_load(image, code.len(), common.len(), private.len());
+    let Reading::Accepted(header) = reading else {
+        return unloaded(reading);
     };
-    let reading = image::read(image, code);
-    match reading {
-        Reading::Refused(r) => unloaded(r),
-        Reading::Accepted(header) => {
-            clear(common);
-            clear(private);
-            Loaded {
-                machine: Machine::fresh(header),
-                check: Check::Passed,
-            }
-        }
-    }
+    let machine = set_up(image, header, code, common, private);
+    Loaded { machine, reading }
 }

@@ -1,22 +1,20 @@
 // Turns: a burst of the running process, and the selection, the kernel call or the stop that follows it.
 ghost use mathlib.Core.Path.{_≡_};
 ghost use mathlib.Core.Bool.{_&&_, not};
-ghost use Prim.Native.Nat.{ℕ, _+_, _≤_, _<_};
+ghost use Prim.Native.Nat.{_≤_, _<_};
 ghost use lib.Dec.{ltb};
-ghost use lib.ListN.{length, set};
+ghost use lib.ListN.{length};
 ghost use Rattle.notation.specs.If.{if};
 ghost use Rattle.machine.specs.declared.Machine.{Machine};
 ghost use Rattle.machine.specs.State.{proc};
-ghost use Rattle.machine.specs.Store.{withPart};
 ghost use Rattle.machine.specs.Classes.{selects};
-ghost use Rattle.machine.specs.Step.{view};
 ghost use Rattle.machine.specs.Run.{run};
-ghost use Rattle.engine.specs.Burst.{bursts};
+ghost use Rattle.engine.specs.Burst.{endSays};
 ghost use Rattle.kernel.specs.declared.answer.Act.the-variants.{Stop};
-ghost use Rattle.kernel.specs.Did.{decided, callerOf, endOf as endOfAct};
-ghost use Rattle.run.specs.Turn.{turn, quotaOf};
+ghost use Rattle.kernel.specs.Did.{Decides, endOf as endOfAct};
+ghost use Rattle.run.specs.Turn.{quotaOf};
 ghost use Rattle.run.specs.Said.{world, endOf};
-ghost use Rattle.run.specs.Ran.{ran, isOnward, isStopped, Accepted, Going, movedCaller, Small, counted, Countable, following, settled};
+ghost use Rattle.run.specs.Ran.{ran, isOnward, isStopped, Accepted, Going, movedCaller, BurstOf, Small, counted, Countable, following, TurnOf};
 use crate::answer::Ended;
 use crate::answer::Ran;
 use engine::Burst;
@@ -63,12 +61,12 @@ fn burst(
     private: &mut [u16],
 ) -> Burst
     requires { ⌜ (i < 10) × (p .variables ≤ 2048) × (length (now private) ≡ 20480) ⌝ }
-    ensures { λ x. ⌜ ((m : Machine) → m .running ≡ i → proc m i ≡ p → (x ≡ (bursts quota (view (now (code .entry)) (world m (now (common .entry)) (now (private .entry))))) .burst) × (now (common .exit) ≡ (bursts quota (view (now (code .entry)) (world m (now (common .entry)) (now (private .entry))))) .common) × (now (private .exit) ≡ withPart (m .running) ((bursts quota (view (now (code .entry)) (world m (now (common .entry)) (now (private .entry))))) .own) (now (private .entry)))) ⌝ }
+    ensures { λ x. ⌜ BurstOf i p (now (code .entry)) quota x (now (common .entry)) (now (private .entry)) (now (common .exit)) (now (private .exit)) ⌝ }
 {
-    let floor = 2048 + p.variables;
+    let floor = Machine::OWN + p.variables;
     let holding = 0 < p.holds;
-    let at = 2048 * (i as usize);
-    let end = at + 2048;
+    let at = Machine::PART * (i as usize);
+    let end = at + Machine::PART;
     engine::run_burst(
         code,
         floor,
@@ -101,14 +99,14 @@ fn stops(who: Caller, f: u16) -> Decision
 // What follows a burst, by its end.
 fn follow(
     who: Caller,
-    processes: [Process; 10],
-    gates: [Gate; 25],
+    processes: [Process; Machine::PROCESSES as usize],
+    gates: [Gate; Machine::GATES as usize],
     end: engine::End,
     common: &mut [u16],
     private: &mut [u16],
 ) -> Decision
-    requires { ⌜ Small end ⌝ }
-    ensures { λ x. ⌜ ((m : Machine) → who ≡ callerOf m → m .processes ≡ set processes (who .number) (who .process) → m .gates ≡ gates → decided m x (now (common .exit)) (now (private .exit)) ≡ following end (world m (now (common .entry)) (now (private .entry)))) ⌝ }
+    requires { ⌜ Small (endSays end) ⌝ }
+    ensures { λ x. ⌜ Decides who processes gates x (now (common .entry)) (now (common .exit)) (now (private .entry)) (now (private .exit)) (following (endSays end)) ⌝ }
 {
     match end {
         engine::End::Budget => keeps(who, Act::Go),
@@ -121,8 +119,8 @@ fn follow(
 
 // A call and a fault are not counted by their burst.
 fn total(end: engine::End, count: u32) -> u32
-    requires { ⌜ Countable end count ⌝ }
-    ensures { λ r. ⌜ r ≡ counted end count ⌝ }
+    requires { ⌜ Countable (endSays end) count ⌝ }
+    ensures { λ r. ⌜ r ≡ counted (endSays end) count ⌝ }
 {
     match end {
         engine::End::Budget => count,
@@ -137,14 +135,14 @@ fn total(end: engine::End, count: u32) -> u32
 fn turn(
     who: Caller,
     quota: u32,
-    processes: [Process; 10],
-    gates: [Gate; 25],
+    processes: [Process; Machine::PROCESSES as usize],
+    gates: [Gate; Machine::GATES as usize],
     code: &[u16],
     common: &mut [u16],
     private: &mut [u16],
 ) -> Turned
     requires { ⌜ Going who quota (now code) (now common) (now private) ⌝ }
-    ensures { λ x. ⌜ ((m : Machine) (budget : ℕ) → who ≡ callerOf m → m .processes ≡ processes → m .gates ≡ gates → quota ≡ quotaOf m budget → 0 < budget → Accepted (now (code .entry)) (world m (now (common .entry)) (now (private .entry))) → settled (decided m (x .decision) (now (common .exit)) (now (private .exit))) (x .count) ≡ turn (now (code .entry)) quota (world m (now (common .entry)) (now (private .entry)))) ⌝ }
+    ensures { λ x. ⌜ TurnOf who quota processes gates (now (code .entry)) x (now (common .entry)) (now (private .entry)) (now (common .exit)) (now (private .exit)) ⌝ }
 {
     let p = who.process;
     let x = burst(who.number, p, code, quota, common, private);
@@ -263,10 +261,7 @@ pub(crate) fn turns(
         }
         let displaced = displaces(ended, m.ready, class);
         if displaced {
-            let chosen = machine::selected(m.ready, j, class);
-            let ready = chosen.ready;
-            m.ready = ready;
-            m.running = chosen.running;
+            m = m.select();
         }
         let on = is_onward(ended);
         if !on {

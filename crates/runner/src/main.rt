@@ -5,12 +5,12 @@ mod place;
 mod report;
 
 use course::follow;
+use image::Reading;
 use options::Next;
 use options::Number;
 use options::Options;
 use options::Word;
 use report::show;
-use run::Check;
 use shown::say;
 
 // The options so far, what the next word is to be, and whether something was done.
@@ -45,21 +45,28 @@ fn say_help() {
     say(b"N has at most nine digits, and for --tick it is not 0.\n");
 }
 
+fn say_refused(path: &[u8], reading: Reading) {
+    let Reading::Refused(r) = reading else {
+        return;
+    };
+    say(path);
+    say(b": ");
+    shown::say_refusal(r);
+}
+
 // Loads the image and runs it; the code that the machine is lent is the first n words of its buffer.
 fn run_image(path: &[u8], bytes: &[u8], o: Options) {
     let mut code = [0u16; 16256];
     let mut common = [0u16; 2048];
     let mut private = [0u16; 20480];
     let loaded = run::load(bytes, &mut code, &mut common, &mut private);
-    let check = loaded.check;
-    if let Check::Failed(r) = check {
-        say(path);
-        say(b": ");
-        shown::say_refusal(r);
+    let reading = loaded.reading;
+    let Reading::Accepted(header) = reading else {
+        say_refused(path, reading);
         return;
-    }
+    };
     let m = loaded.machine;
-    let n = m.length as usize;
+    let n = header.length as usize;
     if n <= 16256 {
         let c = follow(m, o, path, &code[..n], &mut common, &mut private);
         show(path, c, &common, &private);

@@ -1,4 +1,6 @@
 // A line to be shown: what is put into it stands in columns that its maker chooses.
+ghost use mathlib.Core.Path.{_≡_};
+ghost use Rattle.shown.specs.Line.{bytes, empty, pushed, putAll, toColumn, decimal, rightTo, signedWord, deviceName};
 use libc::STDOUT_FILENO;
 
 // The first len bytes of text; those after are spaces, so that a column is reached by a longer line.
@@ -14,7 +16,9 @@ fn write_first(n: usize, text: &[u8]) {
 }
 
 impl Line {
-    pub fn new() -> Line {
+    pub fn new() -> Line
+        ensures { λ r. ⌜ r ≡ empty ⌝ }
+    {
         Line {
             len: 0,
             text: [b' '; 120],
@@ -22,7 +26,9 @@ impl Line {
     }
 
     // A full line stays as it is.
-    fn push(mut self, b: u8) -> Line {
+    fn push(mut self, b: u8) -> Line
+        ensures { λ r. ⌜ r ≡ pushed self b ⌝ }
+    {
         let n = self.len;
         if n < 120 {
             self.text[n] = b;
@@ -31,7 +37,9 @@ impl Line {
         self
     }
 
-    pub fn put(self, words: &[u8]) -> Line {
+    pub fn put(self, words: &[u8]) -> Line
+        ensures { λ r. ⌜ r ≡ putAll self (now (words .entry)) ⌝ }
+    {
         let mut line = self;
         let n = words.len();
         for i in 0..n {
@@ -41,7 +49,9 @@ impl Line {
     }
 
     // What follows begins at a column, where that is not passed yet.
-    pub fn to(mut self, column: usize) -> Line {
+    pub fn to(mut self, column: usize) -> Line
+        ensures { λ r. ⌜ r ≡ toColumn self column ⌝ }
+    {
         let n = self.len;
         if n < column {
             if column <= 120 {
@@ -51,22 +61,28 @@ impl Line {
         self
     }
 
-    pub fn number(self, n: u64) -> Line {
+    pub fn number(self, n: u64) -> Line
+        ensures { λ r. ⌜ r ≡ putAll self (decimal n) ⌝ }
+    {
         let mut digits = [0u8; 20];
         let k = io::decimal(n, &mut digits);
         self.put(&digits[..k])
     }
 
     // A number that ends at a column.
-    pub fn right(self, n: u64, column: usize) -> Line {
+    pub fn right(self, n: u64, column: usize) -> Line
+        ensures { λ r. ⌜ r ≡ rightTo self n column ⌝ }
+    {
         let mut digits = [0u8; 20];
-        let k = io::decimal(n, &mut digits);
-        let start = if k < column { column - k } else { 0 };
-        self.to(start).put(&digits[..k])
+        let width = io::decimal(n, &mut digits);
+        let start = if width < column { column - width } else { 0 };
+        self.to(start).put(&digits[..width])
     }
 
     // A word, signed.
-    pub fn word(self, x: u16) -> Line {
+    pub fn word(self, x: u16) -> Line
+        ensures { λ r. ⌜ r ≡ signedWord self x ⌝ }
+    {
         let n = x as u64;
         if n < 32768 {
             self.number(n)
@@ -76,7 +92,9 @@ impl Line {
     }
 
     // A device's name.
-    pub fn device(self, d: u8) -> Line {
+    pub fn device(self, d: u8) -> Line
+        ensures { λ r. ⌜ r ≡ putAll self (bytes (deviceName d)) ⌝ }
+    {
         match d {
             0 => self.put(b"terminal"),
             1 => self.put(b"disk"),

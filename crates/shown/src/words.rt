@@ -1,4 +1,7 @@
 // Words on the standard output.
+ghost use mathlib.Core.Path.{_≡_};
+ghost use Rattle.shown.specs.Line.{putAll};
+ghost use Rattle.shown.specs.Refused.{blockWords, refusalLine};
 use crate::line::Line;
 use image::Refusal;
 use libc::STDOUT_FILENO;
@@ -9,26 +12,33 @@ pub fn say(text: &[u8]) {
 
 // The table's number and words.
 pub fn say_refusal(r: Refusal) {
+    refusal_line(r).say();
+}
+
+fn refusal_line(r: Refusal) -> Line
+    ensures { λ l. ⌜ l ≡ refusalLine r ⌝ }
+{
+    let line = Line::new().put(b"refused, ");
     match r {
-        Refusal::Length => say(b"refused, 1: its length is 0 or not a multiple of 512 bytes\n"),
-        Refusal::Block(b) => say_block(b),
-        Refusal::Head => say(
-            b"refused, 3: a header field is out of range, or a word after the header is not zero\n",
+        Refusal::Length => line.put(b"1: its length is 0 or not a multiple of 512 bytes"),
+        Refusal::Block(b) => block_line(line, b),
+        Refusal::Head => line.put(
+            b"3: a header field is out of range, or a word after the header is not zero",
         ),
-        Refusal::Count => say(b"refused, 4: it has not as many blocks as its code length asks\n"),
-        Refusal::Fill => say(b"refused, 5: a word after the code is not zero\n"),
-        Refusal::Lent => say(b"refused, 6: a store or the code has the wrong length\n"),
-        Refusal::Unsound => say(b"refused, 7: the state is not sound\n"),
-        Refusal::Stopped => say(b"refused, 8: the machine is stopped\n"),
-        Refusal::Done => say(b"refused, 9: a bad done event\n"),
-        Refusal::Short => say(b"refused, 10: the output is too short\n"),
+        Refusal::Count => line.put(b"4: it has not as many blocks as its code length asks"),
+        Refusal::Fill => line.put(b"5: a word after the code is not zero"),
+        Refusal::Lent => line.put(b"6: a store or the code has the wrong length"),
+        Refusal::Unsound => line.put(b"7: the state is not sound"),
+        Refusal::Stopped => line.put(b"8: the machine is stopped"),
+        Refusal::Done => line.put(b"9: a bad done event"),
+        Refusal::Short => line.put(b"10: the output is too short"),
     }
 }
 
-fn say_block(b: usize) {
-    Line::new()
-        .put(b"refused, 2: the check or the number of block ")
+fn block_line(line: Line, b: usize) -> Line
+    ensures { λ l. ⌜ l ≡ putAll line (blockWords b) ⌝ }
+{
+    line.put(b"2: the check or the number of block ")
         .number(b as u64)
         .put(b" is wrong")
-        .say();
 }

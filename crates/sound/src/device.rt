@@ -13,7 +13,7 @@ use machine::Machine;
 fn is_ok(x: Device, created: u8, present: bool) -> bool
     ensures { λ r. ⌜ r ≡ deviceIn created present x ⌝ }
 {
-    let whole = (x.address <= 2044) | ((2048 <= x.address) & (x.address <= 4092));
+    let whole = (x.address <= 2044) | ((Machine::OWN <= x.address) & (x.address <= 4092));
     ((x.process == Machine::NOBODY) | (x.process < created))
         & (!(x.process < Machine::NOBODY) | (present & (x.operation <= 3) & whole))
 }

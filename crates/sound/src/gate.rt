@@ -11,7 +11,7 @@ use machine::Gate;
 use machine::Machine;
 
 // Each cell has nobody, or a created process.
-fn are_filled_well(cells: [u8; 8], created: u8) -> bool
+fn are_filled_well(cells: [u8; Machine::CELLS as usize], created: u8) -> bool
     ensures { λ r. ⌜ r ≡ allTo (λ c. someoneIn created (getD cells c 0)) 8 ⌝ }
 {
     let mut ok = true;
@@ -23,7 +23,7 @@ fn are_filled_well(cells: [u8; 8], created: u8) -> bool
 }
 
 // Each cell has nobody.
-fn are_empty(cells: [u8; 8]) -> bool
+fn are_empty(cells: [u8; Machine::CELLS as usize]) -> bool
     ensures { λ r. ⌜ r ≡ allTo (λ c. eqb (getD cells c 0) 10) 8 ⌝ }
 {
     let mut ok = true;
@@ -35,7 +35,7 @@ fn are_empty(cells: [u8; 8]) -> bool
 }
 
 // No cell has x.
-fn lack(cells: [u8; 8], x: u8) -> bool
+fn lack(cells: [u8; Machine::CELLS as usize], x: u8) -> bool
     ensures { λ r. ⌜ r ≡ allTo (λ c. not (eqb (getD cells c 0) x)) 8 ⌝ }
 {
     let mut ok = true;
@@ -93,7 +93,7 @@ fn is_ok(w: Gate, created: u8, made: bool) -> bool
 }
 
 // All 25.
-pub(crate) fn are_ok(gates: [Gate; 25], created: u8, made: u8) -> bool
+pub(crate) fn are_ok(gates: [Gate; Machine::GATES as usize], created: u8, made: u8) -> bool
     ensures { λ r. ⌜ r ≡ allTo (λ g. gateIn created (ltb g made) (getD gates g noGate)) 25 ⌝ }
 {
     let mut ok = true;

@@ -20,10 +20,10 @@ pub(crate) fn one_if(b: bool) -> u8
 }
 
 // The holder of each gate.
-pub(crate) fn holders_of(gates: [Gate; 25]) -> [u8; 25]
+pub(crate) fn holders_of(gates: [Gate; Machine::GATES as usize]) -> [u8; Machine::GATES as usize]
     ensures { λ r. ⌜ (length r ≡ 25) × ((g : ℕ) → g < 25 → getD r g 0 ≡ (getD gates g noGate) .holder) ⌝ }
 {
-    let mut holders = [Machine::NOBODY; 25];
+    let mut holders = [Machine::NOBODY; Machine::GATES as usize];
     for g in 0..Machine::GATES {
         let h = gates[g as usize].holder;
         holders[g as usize] = h;
@@ -32,7 +32,7 @@ pub(crate) fn holders_of(gates: [Gate; 25]) -> [u8; 25]
 }
 
 // One more for the gate x.
-fn one(t: &mut [u8; 25], x: u8)
+fn one(t: &mut [u8; Machine::GATES as usize], x: u8)
     requires { ⌜ Room 25 200 (now t) ⌝ }
     ensures { λ r. ⌜ Grown 25 (now (t .entry)) (now (t .exit)) (λ g. sits g x) ⌝ }
 {
@@ -42,7 +42,7 @@ fn one(t: &mut [u8; 25], x: u8)
 }
 
 // One more for each gate held.
-fn row(t: &mut [u8; 25], held: [u8; 8], holds: u8)
+fn row(t: &mut [u8; Machine::GATES as usize], held: [u8; Machine::HELD as usize], holds: u8)
     requires { ⌜ (holds ≤ 8) × Room 25 100 (now t) ⌝ }
     ensures { λ r. ⌜ Grown 25 (now (t .entry)) (now (t .exit)) (λ g. sumTo (λ k. sits g (getD held k 0)) holds) ⌝ }
 {
@@ -53,7 +53,7 @@ fn row(t: &mut [u8; 25], held: [u8; 8], holds: u8)
 }
 
 // The gates held are below 25.
-fn are_gates(held: [u8; 8], holds: u8) -> bool
+fn are_gates(held: [u8; Machine::HELD as usize], holds: u8) -> bool
     requires { ⌜ holds ≤ 8 ⌝ }
     ensures { λ r. ⌜ r ≡ allTo (λ k. ltb (getD held k 0) 25) holds ⌝ }
 {
@@ -66,7 +66,7 @@ fn are_gates(held: [u8; 8], holds: u8) -> bool
 }
 
 // Each gate is counted once where q holds it, and else not.
-fn agree(t: &[u8; 25], holders: &[u8; 25], q: u8) -> bool
+fn agree(t: &[u8; Machine::GATES as usize], holders: &[u8; Machine::GATES as usize], q: u8) -> bool
     ensures { λ r. ⌜ r ≡ allTo (λ g. eqb (getD (now (t .entry)) g 0) (bit (eqb (getD (now (holders .entry)) g 0) q))) 25 ⌝ }
 {
     let mut ok = true;
@@ -78,14 +78,19 @@ fn agree(t: &[u8; 25], holders: &[u8; 25], q: u8) -> bool
 }
 
 // "the lists of held gates agree with the holders and repeat none".
-pub(crate) fn is_ok(holders: &[u8; 25], q: u8, held: [u8; 8], holds: u8) -> bool
+pub(crate) fn is_ok(
+    holders: &[u8; Machine::GATES as usize],
+    q: u8,
+    held: [u8; Machine::HELD as usize],
+    holds: u8,
+) -> bool
     ensures { λ r. ⌜ r ≡ listIn (now (holders .entry)) q held holds ⌝ }
 {
     if Machine::HELD < holds {
         return false;
     }
     let known = are_gates(held, holds);
-    let mut t = [0u8; 25];
+    let mut t = [0u8; Machine::GATES as usize];
     row(&mut t, held, holds);
     let same = agree(&t, holders, q);
     known & same

@@ -18,9 +18,9 @@ pub(crate) fn are_ok(m: Machine) -> bool
         & (m.created <= Machine::PROCESSES)
         & (m.made <= Machine::GATES)
         & header
-        & (m.fraction <= 9990)
-        & (m.fraction % 10 == 0)
-        & (m.seconds <= 32767)
+        & (m.fraction <= Machine::LAST_FRACTION)
+        & (m.fraction % Machine::TICK == 0)
+        & (m.seconds <= Machine::LAST_SECOND)
         & ((m.stop == Machine::GOING) | (m.stop <= 9))
         & ((m.running == Machine::NOBODY) | (m.running < m.created))
         & ((m.running < Machine::NOBODY) | empty)

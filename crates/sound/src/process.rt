@@ -9,8 +9,13 @@ ghost use Rattle.sound.specs.Tally.{Room};
 ghost use Rattle.sound.specs.Test.{classFor, limitsIn, processIn};
 use crate::held;
 use image::Header;
+use machine::Machine;
 use machine::Process;
 use machine::Regs;
+
+const OWN: u32 = Machine::OWN as u32;
+
+const CEILING: u32 = Machine::CEILING as u32;
 
 // With room for a sum.
 fn wide(x: u16) -> u32
@@ -34,15 +39,15 @@ fn has_its_class(holds: u8, class: u8) -> bool
 fn has_its_marks(p: Process, n: u16) -> bool
     ensures { λ r. ⌜ r ≡ marksOk n p ⌝ }
 {
-    let floor = 2048 + wide(p.variables);
+    let floor = OWN + wide(p.variables);
     let s = wide(p.regs.s);
     (p.variables <= Header::MOST_VARIABLES)
         & (floor <= s)
         & (p.regs.s <= p.regs.b)
         & (p.regs.b <= p.regs.c)
         & (p.regs.address <= n)
-        & (p.slice <= 190)
-        & (p.slice % 10 == 0)
+        & (p.slice <= Machine::LAST_UNITS)
+        & (p.slice % Machine::UNITS == 0)
 }
 
 // "Outside a job C is 4096 and no stop is pending; in one C is the saved S, saved S <= saved B <= 4096, C + p <= 4096, the saved
@@ -51,16 +56,17 @@ fn job_is_ok(r: Regs, n: u16) -> bool
     ensures { λ x. ⌜ x ≡ jobOk n r ⌝ }
 {
     if r.in_job {
-        let stop = (r.reason == 0) | ((16 <= r.reason) & (r.reason <= 255));
+        let stop = (r.reason == 0)
+            | ((Machine::FIRST_REASON <= r.reason) & (r.reason <= Machine::LAST_REASON));
         let end = wide(r.c) + wide(r.p);
         (r.c == r.saved_s)
             & (r.saved_s <= r.saved_b)
-            & (r.saved_b <= 4096)
-            & (end <= 4096)
+            & (r.saved_b <= Machine::CEILING)
+            & (end <= CEILING)
             & (r.saved_address <= n)
             & stop
     } else {
-        (r.c == 4096) & (r.reason == 0)
+        (r.c == Machine::CEILING) & (r.reason == 0)
     }
 }
 
@@ -68,13 +74,15 @@ fn job_is_ok(r: Regs, n: u16) -> bool
 fn keeps_limits(here: u16, gates: u16, holds: u8, ended: bool, in_job: bool) -> bool
     ensures { λ r. ⌜ r ≡ limitsIn here gates holds ended in_job ⌝ }
 {
-    (!(ended | in_job) | (holds == 0)) & (!in_job | (here == 1)) & ((gates == 0) | (holds <= 7))
+    (!(ended | in_job) | (holds == 0))
+        & (!in_job | (here == 1))
+        & ((gates == 0) | (holds <= Machine::LAST_HELD))
 }
 
 // It runs or is ready so often, is at gates so often, and elsewhere.
 fn is_ok(
     n: u16,
-    holders: &[u8; 25],
+    holders: &[u8; Machine::GATES as usize],
     q: u8,
     here: u16,
     gates: u16,
@@ -104,11 +112,11 @@ fn is_ok(
 // The created processes.
 pub(crate) fn are_ok(
     n: u16,
-    holders: &[u8; 25],
-    here: &[u16; 10],
-    gates: &[u16; 10],
-    elsewhere: &[u16; 10],
-    processes: [Process; 10],
+    holders: &[u8; Machine::GATES as usize],
+    here: &[u16; Machine::PROCESSES as usize],
+    gates: &[u16; Machine::PROCESSES as usize],
+    elsewhere: &[u16; Machine::PROCESSES as usize],
+    processes: [Process; Machine::PROCESSES as usize],
     created: u8,
 ) -> bool
     requires { ⌜ (created ≤ 10) × Room 10 1000 (now here) × Room 10 1000 (now gates) × Room 10 1000 (now elsewhere) ⌝ }

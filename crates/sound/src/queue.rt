@@ -10,7 +10,7 @@ use machine::Machine;
 use machine::Queue;
 
 // The first len are created processes.
-fn are_created(at: [u8; 10], len: u8, created: u8) -> bool
+fn are_created(at: [u8; Machine::PROCESSES as usize], len: u8, created: u8) -> bool
     requires { ⌜ len ≤ 10 ⌝ }
     ensures { λ r. ⌜ r ≡ allTo (λ k. ltb (getD at k 0) created) len ⌝ }
 {
@@ -35,7 +35,7 @@ pub(crate) fn is_ok(q: Queue, created: u8) -> bool
 }
 
 // x is not among the first len.
-pub(crate) fn lacks(at: [u8; 10], len: u8, x: u8) -> bool
+pub(crate) fn lacks(at: [u8; Machine::PROCESSES as usize], len: u8, x: u8) -> bool
     requires { ⌜ len ≤ 10 ⌝ }
     ensures { λ r. ⌜ r ≡ allTo (λ k. not (eqb (getD at k 0) x)) len ⌝ }
 {

@@ -7,11 +7,17 @@ ghost use Rattle.notation.specs.Upto.{allTo};
 ghost use Rattle.machine.specs.State.{noProcess, noQueue};
 ghost use Rattle.sound.specs.Test.{classIn};
 use crate::queue;
+use machine::Machine;
 use machine::Process;
 use machine::Queue;
 
 // The first len are of the class.
-fn are_of(processes: [Process; 10], class: u8, at: [u8; 10], len: u8) -> bool
+fn are_of(
+    processes: [Process; Machine::PROCESSES as usize],
+    class: u8,
+    at: [u8; Machine::PROCESSES as usize],
+    len: u8,
+) -> bool
     requires { ⌜ (len ≤ 10) × ((k : ℕ) → k < len → getD at k 0 < 10) ⌝ }
     ensures { λ r. ⌜ r ≡ allTo (λ k. eqb ((getD processes (getD at k 0) noProcess) .class) class) len ⌝ }
 {
@@ -25,7 +31,12 @@ fn are_of(processes: [Process; 10], class: u8, at: [u8; 10], len: u8) -> bool
 }
 
 // "ready in its class".
-fn is_ok(processes: [Process; 10], created: u8, class: u8, q: Queue) -> bool
+fn is_ok(
+    processes: [Process; Machine::PROCESSES as usize],
+    created: u8,
+    class: u8,
+    q: Queue,
+) -> bool
     requires { ⌜ created ≤ 10 ⌝ }
     ensures { λ r. ⌜ r ≡ classIn created processes class q ⌝ }
 {
@@ -39,7 +50,11 @@ fn is_ok(processes: [Process; 10], created: u8, class: u8, q: Queue) -> bool
 }
 
 // All three classes.
-pub(crate) fn are_ok(processes: [Process; 10], created: u8, ready: [Queue; 3]) -> bool
+pub(crate) fn are_ok(
+    processes: [Process; Machine::PROCESSES as usize],
+    created: u8,
+    ready: [Queue; 3],
+) -> bool
     requires { ⌜ created ≤ 10 ⌝ }
     ensures { λ r. ⌜ r ≡ allTo (λ c. classIn created processes c (getD ready c noQueue)) 3 ⌝ }
 {

@@ -151,7 +151,7 @@ not-running {m} k i h s e =
     let c = sum-get (λ c. inQueue i (ready m c)) 3 0 (omega arith) in
     omega (arith, sits-self i)
 
--- ---- "place j of class 0 runs at the j-th selection"
+-- ---- place j of class 0 runs at the j-th selection
 module _ (code : List ℕ) (w : World) (j i : ℕ) (xs : List Offer) (h : Good (w .machine)) (p : InPlace (ready (w .machine) 0) j i) where
   abbrev n : ℕ
   n = selectionsIn code w xs

@@ -74,7 +74,7 @@ one-of-25 {m} g k i h s =
     let z = rw e at (s .within) in
     absurd (omega arith))
 
--- ---- "holds the gate at the k-th release"
+-- ---- at the k-th release it holds the gate
 module _ (code : List ℕ) (w : World) (g k i : ℕ) (h : Good (w .machine)) (p : Waits w g k i) where
   small : g < 25
   small = one-of-25 g (k - 1) i h (stands-of p)

@@ -1,5 +1,5 @@
--- "After each instruction and event, a running process with a strictly better class ready goes to the tail of its own and
--- the head of the best class runs; (..). Taking a process so is a selection": in which offers one is taken
+-- In which offers a process is taken. Document 01: "After each instruction and event, a running process with a strictly better
+-- class ready goes to the tail of its own and the head of the best class runs; (..). Taking a process so is a selection"
 use mathlib.Core.Path.{_≡_}
 use mathlib.Core.Bool.{Bool, true, false, _&&_}
 use mathlib.Core.List.{List}

@@ -1,5 +1,6 @@
--- "A process in place k of a shut gate's queue with d delayed there holds the gate at the k-th release, and no later than the
--- (2k - 1 + d)-th completed leave, delay or continue; place j of class 0 runs at the j-th selection. From any sound state, over any steps"
+-- The third of the user's demands, on how long a process waits: in place k of a shut gate's queue, with d delayed at that gate, it holds the
+-- gate at the k-th release of it, at the latest at the (2k - 1 + d)-th completed leave, delay or continue on it; in place j of class 0 it runs
+-- at the j-th selection. From any sound state, whatever is offered
 use mathlib.Core.Path.{_≡_}
 use mathlib.Core.Bool.{Bool, true, false, _&&_}
 use mathlib.Core.List.{List, _++_}
@@ -76,7 +77,7 @@ HoldsThen code w g k i xs =
     → releasesAt code g (afterAll code w xs) x ≡ true
     → holder (afterNext code w xs x) g ≡ i
 
--- "holds the gate at the k-th release"
+-- the gate is held at the k-th release
 abbrev pub HoldsAtRelease : Type 0
 HoldsAtRelease =
     (code : List ℕ) (w : World) (g k i : ℕ) (xs : List Offer)
@@ -94,7 +95,7 @@ pub record HeldWithin (code : List ℕ) (w : World) (g k n i : ℕ) (xs : List O
   pub kth : releasesIn code w g ys ≡ k
   pub soon : completesIn code w g ys ≤ n
 
--- "and no later than the (2k - 1 + d)-th completed leave, delay or continue"
+-- and at the latest at the (2k - 1 + d)-th completed operation
 abbrev pub bound : ℕ → ℕ → ℕ
 bound k d = 2 * k - 1 + d
 
@@ -120,7 +121,7 @@ RunsThen code w j i xs =
     → selectsAt code (afterAll code w xs) x ≡ true
     → (afterNext code w xs x) .machine .running ≡ i
 
--- "place j of class 0 runs at the j-th selection"
+-- place j of class 0 runs at the j-th selection
 abbrev pub RunsAtSelection : Type 0
 RunsAtSelection =
     (code : List ℕ) (w : World) (j i : ℕ) (xs : List Offer)

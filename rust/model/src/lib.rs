@@ -137,10 +137,8 @@ impl Model {
         if common.len() != COMMON || private.len() != PRIVATE {
             return Err(Refusal::Lent);
         }
-        if words.len() != WORDS {
-            return Err(Refusal::Unsound);
-        }
         let Some(place) = code.get_mut(..text.len()) else { return Err(Refusal::Short) };
+        let Some(words) = words.get_mut(..WORDS) else { return Err(Refusal::Short) };
         place.copy_from_slice(&text);
         if self.is(Planted::LoadTouchesMore) {
             code[text.len()..].fill(0);

@@ -1,60 +1,58 @@
--- Each turn lays one word more of the code over the buffer.
-use mathlib.Core.Path.{_≡_, refl, sym}
-use Prim.Native.Nat.{_-_, _≤_}
-use native.Mathlib.Omega.{arith}
+use Prim.Native.Nat.{_+_, _*_, _≤_}
+use lib.ListN.{length}
+use Rattle.image.specs.Header.{codeBlocks}
+use borrow.Author.Tests.{leb-true}
+use Rattle.notation.proofs.Upto.{both}
+use Rattle.image.specs.Read.{copied}
 use borrow.Author.Needs.{needs}
-use lib.ListN.{length, length-set}
-use Rattle.notation.specs.Upto.{laid}
-use Rattle.notation.proofs.Upto.{laid-none, laid-more}
-use Rattle.image.specs.Read.{codeAt}
 use Rattle.image.proofs.reader.copy_code.Statement.{statement}
 use Rattle.image.proofs.reader.copy_code.Tie as tie
+use Rattle.image.proofs.reader.copy_code.Reads as reads
+use Rattle.image.proofs.reader.copy_code.Lts as lts
+use Rattle.image.proofs.head.code_blocks.Reads as code-blocks-reads
+use Rattle.image.proofs.reader.lay_code.Reads as lay-code-reads
 
-abbrev Inv-loop : tie.InvT-loop
-Inv-loop image n code₀ k₀ code k = (k ≤ n) × (length code ≡ length code₀) × (code ≡ laid (codeAt image) k code₀)
+-- src/reader.rt:177:27
+code-blocks-requires : tie.Need-code-blocks-requires
+code-blocks-requires c κs = search needs
 
-abbrev μ-loop : tie.MeasureT-loop
-μ-loop image n code₀ k₀ code k = n - k
+-- src/reader.rt:177:23
+add-size : tie.Need-add-size
+add-size c = search needs
 
-loop-holds : tie.Need-loop-holds Inv-loop μ-loop
-loop-holds c = (search needs, refl, sym (laid-none _ _))
+-- src/reader.rt:177:16
+mul-size : tie.Need-mul-size
+mul-size c = search needs
 
-code-word-requires : tie.Need-code-word-requires Inv-loop μ-loop
-code-word-requires c κs = search needs
+-- src/reader.rt:180:9
+lay-code-requires : tie.Need-lay-code-requires
+lay-code-requires c κs =
+    let p = both _ _ (c .before .if1 .taken) in
+    let l : 512 * (1 + codeBlocks (c .before .before .before .before .before .args .n)) ≤ length (c .before .before .before .before .before .args .image .now) = rw (← c .before .before .code-blocks .ensures) (leb-true _ _ (p .1)) in
+    (leb-true _ _ (p .0), l)
 
-mul-code : tie.Need-mul-code Inv-loop μ-loop
-mul-code c = search needs
+-- src/reader.rt:173:1
+same-length : tie.Need-same-length
+same-length c = search needs
 
-slice-write-code : tie.Need-slice-write-code Inv-loop μ-loop
-slice-write-code c = search needs
+-- src/reader.rt:173:1
+returns : tie.Need-returns
+unfolding copied
+returns c = let e = rw (c .before .before .before .before .before .code-blocks .ensures) at (c .before .before .before .before .if1 .taken) in rw e (c .before .before .lay-code .ensures)
 
-add-k : tie.Need-add-k Inv-loop μ-loop
-add-k c = search needs
-
-loop-less : tie.Need-loop-less Inv-loop μ-loop
-loop-less c = search needs
-
-loop-again : tie.Need-loop-again Inv-loop μ-loop
-loop-again c = (omega arith, simp length-set (c .before .before .loop .inv .1), rw (c .before .before .loop .inv .2, c .code-word .ensures) (laid-more _ _ _ (omega arith)))
-
-same-length : tie.Need-same-length Inv-loop μ-loop
-same-length c = c .before .loop .inv .1
-
-returns : tie.Need-returns Inv-loop μ-loop
-returns c = let e : c .before .loop .k ≡ c .before .before .before .before .args .n = omega arith in rw e at (c .before .loop .inv .2)
+-- src/reader.rt:173:1
+returns-2 : tie.Need-returns-2
+unfolding copied
+returns-2 c = let e = rw (c .before .code-blocks .ensures) at (c .if1 .left) in rw e
 
 pub copy-code-spec : {M : Type 1} → statement M
 copy-code-spec =
     tie.close
     (tie.spec
-    Inv-loop
-    μ-loop
-    loop-holds
-    code-word-requires
-    mul-code
-    slice-write-code
-    add-k
-    loop-less
-    loop-again
+    code-blocks-requires
+    add-size
+    mul-size
+    lay-code-requires
     same-length
-    returns)
+    returns
+    returns-2)

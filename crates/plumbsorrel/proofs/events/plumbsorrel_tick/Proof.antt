@@ -1,42 +1,74 @@
--- By whether the words are a machine's: 7, or the tick of that machine and its words put back.
 use Rattle.plumbsorrel.proofs.Laws as L
 use mathlib.Core.Path.{refl}
+use mathlib.Core.Bool.{false, not}
 use mathlib.Core.List.{[]}
-use Rattle.image.specs.Refusal.{taken}
 use Rattle.machine.specs.Offer.{offerTick}
 use Rattle.plumbsorrel.specs.Offers.{cTick}
 use borrow.Author.Needs.{needs}
 use Rattle.plumbsorrel.proofs.events.plumbsorrel_tick.Statement.{statement}
 use Rattle.plumbsorrel.proofs.events.plumbsorrel_tick.Tie as tie
+use Rattle.plumbsorrel.proofs.events.plumbsorrel_tick.Reads as reads
+use Rattle.plumbsorrel.proofs.events.plumbsorrel_tick.Lts as lts
+use Rattle.layout.proofs.unpack.Reads as unpack-reads
+use Rattle.plumbsorrel.proofs.number.of_check.Reads as of-check-reads
+use Rattle.plumbsorrel.proofs.state.check_known.Reads as check-known-reads
+use Rattle.plumbsorrel.proofs.state.put_back.Reads as put-back-reads
+use Rattle.run.proofs.tick.Reads as tick-reads
 
+-- src/events.rt:13:9
 unpack-requires : tie.Need-unpack-requires
 unpack-requires c κs = search needs
 
+-- src/events.rt:14:9
+check-known-requires : tie.Need-check-known-requires
+check-known-requires c κs = search needs
+
+enum-told : tie.Need-enum-told
+enum-told c = search needs
+
+-- src/events.rt:16:9
+enum-told-2 : tie.Need-enum-told-2
+enum-told-2 c = search needs
+
+-- src/events.rt:16:9
+of-check-requires : tie.Need-of-check-requires
+of-check-requires c κs = L.little 7 (not (c .before .before .before .unpack .result .known)) (c .before .before .check-known .result) (c .before .before .check-known .ensures)
+
+-- src/events.rt:16:9
 same-length : tie.Need-same-length
 same-length c = search needs
 
+-- src/events.rt:16:9
 returns : tie.Need-returns
 unfolding cTick
-returns c = L.no-machine (c .before .before .before .before .args .state .now) [] [] (taken []) offerTick _ (c .before .unpack .ensures) (c .if1 .taken) 7 refl
+returns c = rw (c .of-check .ensures) (L.unknown-refuses (c .before .before .before .before .before .before .before .args .state .now) [] [] false offerTick (c .before .before .before .before .unpack .result) (c .before .before .before .before .unpack .ensures) refl (c .before .before .before .check-known .result) (c .before .before .before .check-known .ensures) _ (c .before .enum-told2 .given .1))
 
+-- src/events.rt:19:21
 tick-requires : tie.Need-tick-requires
 tick-requires c κs = search needs
 
+-- src/events.rt:19:5
 put-back-requires : tie.Need-put-back-requires
 put-back-requires c κs = search needs
 
+-- src/events.rt:9:1
 same-length-2 : tie.Need-same-length-2
 same-length-2 c = search needs
 
+-- src/events.rt:9:1
 returns-2 : tie.Need-returns-2
 unfolding cTick
-returns-2 c = L.answered (c .before .before .before .before .before .before .before .before .before .before .args .state .now) [] [] (taken []) offerTick _ (c .before .before .before .before .before .before .before .unpack .ensures) (c .before .before .before .before .before .before .if1 .left) (c .before .before .before .before .tick .result) [] [] (c .before .before .before .before .tick .ensures [] []) _ _ (c .before .before .put-back .ensures)
+returns-2 c = L.answered (c .before .before .before .before .before .before .before .before .before .before .before .before .args .state .now) [] [] false offerTick (c .before .before .before .before .before .before .before .before .before .unpack .result) (c .before .before .before .before .before .before .before .before .before .unpack .ensures) refl (c .before .before .before .before .before .before .before .before .check-known .result) (c .before .before .before .before .before .before .before .before .check-known .ensures) (c .before .before .before .before .before .before .enum-told .given .1) (c .before .before .before .before .tick .result) [] [] (c .before .before .before .before .tick .ensures [] []) _ _ (c .before .before .put-back .ensures)
 
 pub plumbsorrel-tick-spec : {M : Type 1} → statement M
 plumbsorrel-tick-spec =
     tie.close
     (tie.spec
     unpack-requires
+    check-known-requires
+    enum-told
+    enum-told-2
+    of-check-requires
     same-length
     returns
     tick-requires

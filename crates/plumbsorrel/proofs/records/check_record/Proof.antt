@@ -1,51 +1,82 @@
--- Each check in its turn.
-use Rattle.plumbsorrel.proofs.Asked as Q
-use mathlib.Core.Bool.{_&&_}
-use lib.Dec.{eqb}
-use borrow.Author.Tests.{not-true, not-false, lt-ltb, le-ltb}
-use Rattle.machine.specs.Sound.{sound}
-use Rattle.machine.specs.Device.{isBusy}
+use Rattle.image.proofs.Laws as I
 use borrow.Author.Needs.{needs}
 use Rattle.plumbsorrel.proofs.records.check_record.Statement.{statement}
 use Rattle.plumbsorrel.proofs.records.check_record.Tie as tie
+use Rattle.plumbsorrel.proofs.records.check_record.Reads as reads
+use Rattle.plumbsorrel.proofs.records.check_record.Lts as lts
+use Rattle.image.proofs.check_room.Reads as check-room-reads
+use Rattle.plumbsorrel.proofs.records.check_busy.Reads as check-busy-reads
+use Rattle.plumbsorrel.proofs.records.check_sound.Reads as check-sound-reads
+use Rattle.run.proofs.check_stores.Reads as check-stores-reads
 
+-- src/records.rt:52:9
+check-stores-requires : tie.Need-check-stores-requires
+check-stores-requires c κs = search needs
+
+enum-told : tie.Need-enum-told
+enum-told c = search needs
+
+-- src/records.rt:54:9
+enum-told-2 : tie.Need-enum-told-2
+enum-told-2 c = search needs
+
+-- src/records.rt:54:9
 returns : tie.Need-returns
-returns c = Q.is-lent (eqb (c .before .args .common) 2048 && eqb (c .before .args .private) 20480) (c .before .args .u .known && sound (c .before .args .u .machine)) (c .before .args .d) (isBusy (c .before .args .u .machine) (c .before .args .d)) (c .before .args .room) (not-true _ (c .if1 .taken))
+returns c = I.ends (c .before .before .check-stores .result) _ _ _ (c .before .before .check-stores .ensures) (c .enum-told2 .given .1)
 
-is-sound-requires : tie.Need-is-sound-requires
-is-sound-requires c κs = search needs
+-- src/records.rt:56:9
+check-sound-requires : tie.Need-check-sound-requires
+check-sound-requires c κs = search needs
 
+enum-told-3 : tie.Need-enum-told-3
+enum-told-3 c = search needs
+
+-- src/records.rt:58:9
+enum-told-4 : tie.Need-enum-told-4
+enum-told-4 c = search needs
+
+-- src/records.rt:58:9
 returns-2 : tie.Need-returns-2
-returns-2 c = Q.is-unsound (eqb (c .before .before .before .before .args .common) 2048 && eqb (c .before .before .before .before .args .private) 20480) (c .before .before .before .before .args .u .known && sound (c .before .before .before .before .args .u .machine)) (c .before .before .before .before .args .d) (isBusy (c .before .before .before .before .args .u .machine) (c .before .before .before .before .args .d)) (c .before .before .before .before .args .room) (not-false _ (c .before .before .before .if1 .left)) (rw (← c .before .is-sound .ensures) (not-true _ (c .if2 .taken)))
+returns-2 c = I.goes-on (c .before .before .before .before .before .check-stores .result) _ _ _ (c .before .before .before .before .before .check-stores .ensures) (c .before .before .before .enum-told .given .1) (I.ends (c .before .before .check-sound .result) _ _ _ (c .before .before .check-sound .ensures) (c .enum-told4 .given .1))
 
+-- src/records.rt:60:9
+check-busy-requires : tie.Need-check-busy-requires
+check-busy-requires c κs = search needs
+
+enum-told-5 : tie.Need-enum-told-5
+enum-told-5 c = search needs
+
+-- src/records.rt:62:9
+enum-told-6 : tie.Need-enum-told-6
+enum-told-6 c = search needs
+
+-- src/records.rt:62:9
 returns-3 : tie.Need-returns-3
-returns-3 c = Q.is-none (eqb (c .before .before .before .before .before .args .common) 2048 && eqb (c .before .before .before .before .before .args .private) 20480) (c .before .before .before .before .before .args .u .known && sound (c .before .before .before .before .before .args .u .machine)) (c .before .before .before .before .before .args .d) (isBusy (c .before .before .before .before .before .args .u .machine) (c .before .before .before .before .before .args .d)) (c .before .before .before .before .before .args .room) (not-false _ (c .before .before .before .before .if1 .left)) (rw (← c .before .before .is-sound .ensures) (not-false _ (c .before .if2 .left))) (c .if3 .taken)
+returns-3 c = I.goes-on (c .before .before .before .before .before .before .before .before .check-stores .result) _ _ _ (c .before .before .before .before .before .before .before .before .check-stores .ensures) (c .before .before .before .before .before .before .enum-told .given .1) (I.goes-on (c .before .before .before .before .before .check-sound .result) _ _ _ (c .before .before .before .before .before .check-sound .ensures) (c .before .before .before .enum-told3 .given .1) (I.ends (c .before .before .check-busy .result) _ _ _ (c .before .before .check-busy .ensures) (c .enum-told6 .given .1)))
 
-mul-x : tie.Need-mul-x
-mul-x c = search needs
+-- src/records.rt:64:5
+check-room-requires : tie.Need-check-room-requires
+check-room-requires c κs = search needs
 
-element-copy-out-x : tie.Need-element-copy-out-x
-element-copy-out-x c = search needs
-
+-- src/records.rt:49:1
 returns-4 : tie.Need-returns-4
-returns-4 c = Q.is-free (eqb (c .before .before .before .before .before .before .before .before .args .common) 2048 && eqb (c .before .before .before .before .before .before .before .before .args .private) 20480) (c .before .before .before .before .before .before .before .before .args .u .known && sound (c .before .before .before .before .before .before .before .before .args .u .machine)) (c .before .before .before .before .before .before .before .before .args .d) (isBusy (c .before .before .before .before .before .before .before .before .args .u .machine) (c .before .before .before .before .before .before .before .before .args .d)) (c .before .before .before .before .before .before .before .before .args .room) (not-false _ (c .before .before .before .before .before .before .before .if1 .left)) (rw (← c .before .before .before .before .before .is-sound .ensures) (not-false _ (c .before .before .before .before .if2 .left))) (c .before .before .before .if3 .left) (le-ltb _ _ (c .if4 .taken))
-
-returns-5 : tie.Need-returns-5
-returns-5 c = Q.is-short (eqb (c .before .before .before .before .before .before .before .before .before .args .common) 2048 && eqb (c .before .before .before .before .before .before .before .before .before .args .private) 20480) (c .before .before .before .before .before .before .before .before .before .args .u .known && sound (c .before .before .before .before .before .before .before .before .before .args .u .machine)) (c .before .before .before .before .before .before .before .before .before .args .d) (isBusy (c .before .before .before .before .before .before .before .before .before .args .u .machine) (c .before .before .before .before .before .before .before .before .before .args .d)) (c .before .before .before .before .before .before .before .before .before .args .room) (not-false _ (c .before .before .before .before .before .before .before .before .if1 .left)) (rw (← c .before .before .before .before .before .before .is-sound .ensures) (not-false _ (c .before .before .before .before .before .if2 .left))) (c .before .before .before .before .if3 .left) (lt-ltb _ _ (c .before .if4 .left)) (c .if5 .taken)
-
-returns-6 : tie.Need-returns-6
-returns-6 c = Q.is-passed (eqb (c .before .before .before .before .before .before .before .before .before .args .common) 2048 && eqb (c .before .before .before .before .before .before .before .before .before .args .private) 20480) (c .before .before .before .before .before .before .before .before .before .args .u .known && sound (c .before .before .before .before .before .before .before .before .before .args .u .machine)) (c .before .before .before .before .before .before .before .before .before .args .d) (isBusy (c .before .before .before .before .before .before .before .before .before .args .u .machine) (c .before .before .before .before .before .before .before .before .before .args .d)) (c .before .before .before .before .before .before .before .before .before .args .room) (not-false _ (c .before .before .before .before .before .before .before .before .if1 .left)) (rw (← c .before .before .before .before .before .before .is-sound .ensures) (not-false _ (c .before .before .before .before .before .if2 .left))) (c .before .before .before .before .if3 .left) (lt-ltb _ _ (c .before .if4 .left)) (c .if5 .left)
+returns-4 c = I.goes-on (c .before .before .before .before .before .before .before .before .before .check-stores .result) _ _ _ (c .before .before .before .before .before .before .before .before .before .check-stores .ensures) (c .before .before .before .before .before .before .before .enum-told .given .1) (I.goes-on (c .before .before .before .before .before .before .check-sound .result) _ _ _ (c .before .before .before .before .before .before .check-sound .ensures) (c .before .before .before .before .enum-told3 .given .1) (I.goes-on (c .before .before .before .check-busy .result) _ _ _ (c .before .before .before .check-busy .ensures) (c .before .enum-told5 .given .1) (c .check-room .ensures)))
 
 pub check-record-spec : {M : Type 1} → statement M
 check-record-spec =
     tie.close
     (tie.spec
+    check-stores-requires
+    enum-told
+    enum-told-2
     returns
-    is-sound-requires
+    check-sound-requires
+    enum-told-3
+    enum-told-4
     returns-2
+    check-busy-requires
+    enum-told-5
+    enum-told-6
     returns-3
-    mul-x
-    element-copy-out-x
-    returns-4
-    returns-5
-    returns-6)
+    check-room-requires
+    returns-4)

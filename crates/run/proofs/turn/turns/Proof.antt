@@ -110,8 +110,8 @@ displaces-requires : tie.Need-displaces-requires Inv-loop μ-loop
 displaces-requires c κs =
     search needs
 
-selected-requires : tie.Need-selected-requires Inv-loop μ-loop
-selected-requires c κs =
+select-requires : tie.Need-select-requires Inv-loop μ-loop
+select-requires c κs =
     search needs
 
 -- the class of who runs after the move
@@ -122,7 +122,7 @@ class-now c = ⊎-elim (λ w. w .2 ∙ rw (lt-ltb _ _ (w .0 .taken))) (λ w. w .
 machine-now : (c : tie.Joined3 Inv-loop μ-loop) → c .if3 .m ≡ if (c .before .displaces .result) (select (c .before .before .before .before .before .before .perform .result)) (c .before .before .before .before .before .before .perform .result)
 machine-now c =
     ⊎-elim
-    (λ w. w .4 ∙ rw (w .0 .taken) (w .2 .ensures (c .before .before .before .before .before .before .perform .result) refl refl (λ l. sym (rw (lt-ltb _ _ l) at (class-now (c .before .before .before))))))
+    (λ w. w .2 ∙ rw (w .0 .taken) (w .1 .ensures))
     (λ w. w .1 ∙ rw (w .0 .left))
     (c .if3 .came)
 
@@ -212,7 +212,7 @@ turns-spec =
     mul-next
     element-copy-out-next
     displaces-requires
-    selected-requires
+    select-requires
     is-onward-requires
     so-far-requires-2
     same-length-3

@@ -1,0 +1,1 @@
+// No code: what a reader of the promises checks, in specs/; its proofs in proofs/.
