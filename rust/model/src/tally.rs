@@ -69,7 +69,7 @@ pub enum Request {
 type Sheet = (Group, &'static str, &'static [&'static str], &'static [usize]);
 
 const SHEETS: [Sheet; GROUPS] = [
-    (Group::Load, "load, by refusal (0: taken)", &[], &[0, 1, 2, 3, 4, 5, 6, 7, 10]),
+    (Group::Load, "load, by refusal (0: taken)", &[], &[0, 1, 2, 3, 4, 5, 6, 10]),
     (Group::Step, "step, by refusal", &[], &[0, 6, 7, 8]),
     (Group::Run, "run, by refusal", &[], &[0, 6, 7, 8]),
     (Group::Tick, "tick, by refusal", &[], &[0, 7, 8]),
