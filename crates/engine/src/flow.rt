@@ -79,7 +79,7 @@ pub(crate) fn casejump(code: &[u16], floor: u16, r: Regs, own: &[u16]) -> Out
     }
 }
 
-// On at the target of the case in place k; a place past the code has none.
+// On at the target of the case in place k.
 fn go_to_case(code: &[u16], r: Regs, k: usize, s: u16) -> Out
     requires { ⌜ (r .address + (3 + k)) < length (now code) ⌝ }
     ensures { λ o. ⌜ OnCode o (now (code .entry)) r (λ v. toTarget v (arg v (3 + k)) (goes v (arg v (3 + k)) s)) ⌝ }

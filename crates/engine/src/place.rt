@@ -1,4 +1,4 @@
-// Addresses: the one way from an address to a word of a store. Codes 2 and 3.
+// Addresses that a program gives: the one way from them to a word of a store. Codes 2 and 3.
 ghost use mathlib.Core.Path.{_≡_};
 ghost use mathlib.Core.Bool.{false};
 ghost use mathlib.Core.List.{[]};

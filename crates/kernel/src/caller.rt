@@ -48,7 +48,7 @@ pub(crate) fn own(i: u8, a: u16) -> usize
     requires { ⌜ 2048 ≤ a ⌝ }
     ensures { λ r. ⌜ r ≡ own i a ⌝ }
 {
-    Machine::PART * wide_byte(i) + (wide(a) - Machine::COMMON)
+    Machine::PART * wide_byte(i) + (wide(a) - Machine::OWN_AT)
 }
 
 // Word j of the caller's stack.

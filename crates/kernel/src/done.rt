@@ -22,7 +22,8 @@ fn write_record(x: Device, status: u16, arg: u16, common: &mut [u16], private: &
     }
 }
 
-// A device is done; nothing happens where it is not busy, or a store has the wrong length.
+// A device is done; nothing happens where there is none of the number, it is not busy, its record is not whole in one store, or a
+// store has the wrong length.
 pub fn device_done(
     m: Machine,
     d: u8,

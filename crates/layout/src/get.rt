@@ -121,7 +121,7 @@ fn gates(words: &[u16]) -> [Gate; Machine::GATES as usize]
         at: [0; Machine::PROCESSES as usize],
     };
     let open = Gate {
-        holder: 10,
+        holder: Machine::NOBODY,
         queue: none,
         cells: [Machine::NOBODY; Machine::CELLS as usize],
     };
@@ -154,7 +154,7 @@ fn devices(words: &[u16]) -> [Device; 5]
     ensures { λ r. ⌜ r ≡ listTo (λ d. deviceOf (from (now (words .entry)) (795 + 3 * d))) 5 ⌝ }
 {
     let idle = Device {
-        process: 10,
+        process: Machine::NOBODY,
         operation: 0,
         address: 0,
     };
