@@ -7,7 +7,7 @@ use native.Mathlib.Omega.{arith}
 use native.Mathlib.Nat.{mul-le-mul}
 use lib.Dec.{ltb, leb, eqb, leb·zero}
 use lib.IntN.{ℤ, pos, negsuc, negℤ, subℕ, natAbs, _+ℤ_, _-ℤ_, _*ℤ_}
-use lib.Signed.{ltZ, leZ, quotZ}
+use lib.Signed.{ltZ, leZ, quotZ, remZ}
 use mir.Syntax.{w64}
 use mir.Val.{Fits}
 use borrow.Author.Tests.{lt-ltb, le-ltb, le-leb, lt-leb, eq-eqb, ne-eqb, ltb-false}
@@ -15,7 +15,7 @@ use Rattle.notation.specs.If.{if}
 use Rattle.notation.proofs.Upto.{below?}
 use Rattle.word.specs.declared.Answer.{Answer}
 use Rattle.word.specs.declared.Answer.the-variants.{Word, Fault}
-use Rattle.word.specs.Word.{Reckoned, word, fault, said, signed, wordOf, within, eqZ, fitted, lifted, modZ, indexed}
+use Rattle.word.specs.Word.{Reckoned, word, fault, said, signed, wordOf, within, eqZ, fitted, indexed}
 use Rattle.word.specs.Word.{localAddrW, indexW, rangeW, caseW, negW, addW, subW, mulW, divW, modW, lessW}
 use Rattle.word.specs.Whole.{biased, magnitude, bySigns}
 
@@ -211,21 +211,12 @@ module _
         hb)
         ha
 
--- MOD lifts a remainder m below zero by the size d of the divisor
-abbrev liftedAs : Bool → ℕ → ℕ → ℤ
-liftedAs s m d = if s (subℕ m 0) (if (eqb m 0) (subℕ 0 0) (subℕ d m))
-
-lifted-neg : (m d : ℕ) → lifted (negℤ (pos m)) d ≡ liftedAs false m d
-unfolding lifted
-lifted-neg zero d = refl
-lifted-neg (suc m) d = rw (ne-eqb (suc m) 0 (λ e. omega arith))
-
-modZ-is-lifted : {a : ℕ} (d : ℤ) → a < 65536 → modZ (signed a) d ≡ liftedAs (ltb a 32768) (magnitude a % natAbs d) (natAbs d)
-unfolding modZ lifted
-modZ-is-lifted d =
-    by-value (λ _ s y. modZ y d ≡ liftedAs s (natAbs y % natAbs d) (natAbs d))
+-- MOD has the dividend's sign
+rem-by-sign : {a : ℕ} (d : ℤ) → a < 65536 → remZ (signed a) d ≡ if (ltb a 32768) (subℕ (magnitude a % natAbs d) 0) (subℕ 0 (magnitude a % natAbs d))
+rem-by-sign d =
+    by-value (λ _ s y. remZ y d ≡ if s (subℕ (natAbs y % natAbs d) 0) (subℕ 0 (natAbs y % natAbs d)))
     (λ n _. pos-is-sub _)
-    (λ _ n _ _. lifted-neg (suc n % natAbs d) (natAbs d))
+    (λ _ n _ _. neg-is-sub (suc n % natAbs d))
 
 -- MUL, DIV and MOD, of two words whose sizes the code has
 module _ {a b s d : ℕ} (ha : a < 65536) (hb : b < 65536) (es : s ≡ magnitude a) (ed : d ≡ magnitude b) where
@@ -238,18 +229,11 @@ module _ {a b s d : ℕ} (ha : a < 65536) (hb : b < 65536) (es : s ≡ magnitude
     is-div e =
         rw (op-is-by-signs quotZ (λ x y. x / y) (λ x y. refl) (λ x y. refl) (λ x y. refl) (λ x y. refl) ha hb, ← es, ← ed, ne-eqb d 0 nonzero) e
 
-    modW-is-fitted : modW a b ≡ fitted (liftedAs (ltb a 32768) (s % d) d)
-    modW-is-fitted = rw (modZ-is-lifted (signed b) ha, ← es, ← ed, ne-eqb d 0 nonzero)
-
     pub is-mod : {q : Reckoned} → a < 32768 → q ≡ fitted (subℕ (s % d) 0) → q ≡ modW a b
-    is-mod h e = rw (modW-is-fitted, lt-ltb a 32768 h) e
+    is-mod h e = rw (rem-by-sign (signed b) ha, ← es, ← ed, ne-eqb d 0 nonzero, lt-ltb a 32768 h) e
 
-    module _ {q : Reckoned} (h : 32768 ≤ a) where
-      pub is-mod-zero : s % d ≡ 0 → q ≡ fitted (subℕ 0 0) → q ≡ modW a b
-      is-mod-zero m e = rw (modW-is-fitted, le-ltb a 32768 h, eq-eqb (s % d) 0 m) e
-
-      pub is-mod-lifted : (s % d ≡ 0 → ⊥) → q ≡ fitted (subℕ d (s % d)) → q ≡ modW a b
-      is-mod-lifted m e = rw (modW-is-fitted, le-ltb a 32768 h, ne-eqb (s % d) 0 m) e
+    pub is-mod-below : {q : Reckoned} → 32768 ≤ a → q ≡ fitted (subℕ 0 (s % d)) → q ≡ modW a b
+    is-mod-below h e = rw (rem-by-sign (signed b) ha, ← es, ← ed, ne-eqb d 0 nonzero, le-ltb a 32768 h) e
 
 -- RANGE, of three words that the code has biased: its two bounds are tested one after the other
 in-turn : (s t : Bool) (x y : Reckoned) → if (not s && not t) x y ≡ if s y (if t y x)

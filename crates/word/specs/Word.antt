@@ -5,7 +5,7 @@ use Prim.Native.Nat.{ℕ, _+_, _-_}
 use lib.Dec.{ltb, eqb}
 use lib.Bits.{bitAnd, bitOr}
 use lib.IntN.{ℤ, pos, negsuc, negℤ, natAbs, subℕ, _+ℤ_, _-ℤ_, _*ℤ_}
-use lib.Signed.{ltZ, leZ, quotZ, remZ, nonNeg}
+use lib.Signed.{ltZ, leZ, quotZ, remZ}
 use Rattle.word.specs.declared.Answer.{Answer}
 use Rattle.word.specs.declared.Answer.the-variants.{Word, Fault}
 use Rattle.notation.specs.If.{if}
@@ -97,15 +97,9 @@ mulW a b = fitted (signed a *ℤ signed b)
 abbrev pub divW : ℕ → ℕ → Reckoned
 divW a b = if (isZero (signed b)) (fault 1) (fitted (quotZ (signed a) (signed b)))
 
--- 16 MOD gives the remainder in 0 to |divisor| - 1
-unfoldable pub lifted : ℤ → ℕ → ℤ
-lifted r d = if (nonNeg r) r (r +ℤ pos d)
-
-unfoldable pub modZ : ℤ → ℤ → ℤ
-modZ z d = lifted (remZ z d) (natAbs d)
-
+-- 16 MOD: the remainder, with the dividend's sign; fault 1 at a zero divisor
 abbrev pub modW : ℕ → ℕ → Reckoned
-modW a b = if (isZero (signed b)) (fault 1) (fitted (modZ (signed a) (signed b)))
+modW a b = if (isZero (signed b)) (fault 1) (fitted (remZ (signed a) (signed b)))
 
 -- 17 LESS; 18 EQUAL; 19 GREATER (1 or 0)
 abbrev pub lessW : ℕ → ℕ → ℕ

@@ -112,13 +112,7 @@ pub(crate) fn modulo(a: u16, b: u16) -> Answer
         return Answer::Fault(fault::OVERFLOW);
     }
     let m = size(a) % d;
-    if a < 32768 {
-        return fit(m, 0);
-    }
-    if m == 0 {
-        return fit(0, 0);
-    }
-    fit(d, m)
+    if a < 32768 { fit(m, 0) } else { fit(0, m) }
 }
 
 pub(crate) fn less(a: u16, b: u16) -> u16

@@ -133,7 +133,7 @@ impl Process<'_> {
                 if y == 0 {
                     return Err(1);
                 } else {
-                    fitted(x.rem_euclid(y.abs()))?
+                    fitted(x % y)?
                 }
             }
             17 => (x < y) as u16,

@@ -1,4 +1,4 @@
-//! An independent interpreter of the machine, written from document 01 alone:
+//! An independent interpreter of the machine, written from the paper alone:
 //! what the operations take and refuse, and the number that each answers.
 
 mod answer;

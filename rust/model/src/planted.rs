@@ -30,7 +30,7 @@ planted! {
     GateOpened "gate-opened-with-waiters",
     OneClockWaiter "one-clock-waiter-woken",
     ContinuedQueues "continued-queues-behind-waiters",
-    ModSign "mod-with-dividends-sign",
+    ModNeverNegative "mod-never-negative",
     DivDown "div-rounds-down",
     FalseJumpLate "stop-after-falsejump-faults",
     DoneArgument "done-argument-at-any-status",

@@ -48,8 +48,9 @@ fn quotients() {
 
 #[test]
 fn remainders() {
-    assert_eq!(binary(-7, MOD, 3).top(0), 2);
-    assert_eq!(binary(-1, MOD, -32_768).top(0), 32_767);
+    assert_eq!(binary(-7, MOD, 3).top(0), word(-1));
+    assert_eq!(binary(7, MOD, -3).top(0), 1);
+    assert_eq!(binary(-1, MOD, -32_768).top(0), word(-1));
     assert_eq!(binary(-32_768, MOD, -1).top(0), 0);
     assert_fault(&binary(7, MOD, 0), 1);
 }

@@ -181,17 +181,19 @@ impl Writer<'_> {
         }
     }
 
+    /// A remainder has the dividend's sign: it and its negative lead to the same arm.
     fn cases(&mut self, value: u16) {
         let (rng, asm) = (&mut *self.rng, &mut self.asm);
         let arms = rng.range(1, 4) as u16;
+        let least = 1_u16.wrapping_sub(arms);
         asm.push(value);
         asm.push(arms);
         asm.op(MOD, &[]);
-        asm.op(RANGE, &[0, arms - 1]);
+        asm.op(RANGE, &[least, arms - 1]);
         let out = asm.label();
         let labels: Vec<Label> = (0..arms).map(|_| asm.label()).collect();
-        asm.op(CASEJUMP, &[0, arms]);
-        labels.iter().for_each(|&label| asm.target(label));
+        asm.op(CASEJUMP, &[least, 2 * arms - 1]);
+        labels[1..].iter().rev().chain(&labels).for_each(|&label| asm.target(label));
         for &label in &labels {
             asm.place(label);
             asm.op(NEWLINE, &[rng.below(100) as u16]);

@@ -1,4 +1,4 @@
--- The remainder m of the sizes is the remainder of a value that isn't negative; of any other it is 0 where m is 0, else |b| - m.
+-- The remainder of the sizes, with the dividend's sign, is the remainder of the values.
 use native.Mathlib.Nat.{mod-le}
 use native.Mathlib.Omega.{arith}
 use borrow.Author.Needs.{needs}
@@ -22,20 +22,14 @@ rem-m c = search needs
 fit-requires : tie.Need-fit-requires
 fit-requires c κs = omega (arith, mod-le (c .before .size2 .result) (c .before .before .before .size .result))
 
+fit-requires-2 : tie.Need-fit-requires-2
+fit-requires-2 c κs = omega (arith, mod-le (c .before .size2 .result) (c .before .before .before .size .result))
+
 returns-2 : tie.Need-returns-2
 returns-2 c = search (needs, W.is-mod)
 
-fit-requires-2 : tie.Need-fit-requires-2
-fit-requires-2 c κs = search needs
-
 returns-3 : tie.Need-returns-3
-returns-3 c = search (needs, W.is-mod-zero)
-
-fit-requires-3 : tie.Need-fit-requires-3
-fit-requires-3 c κs = omega (arith, mod-le (c .before .before .size2 .result) (c .before .before .before .before .size .result))
-
-returns-4 : tie.Need-returns-4
-returns-4 c = search (needs, W.is-mod-lifted)
+returns-3 c = search (needs, W.is-mod-below)
 
 pub modulo-spec : {M : Type 1} → statement M
 modulo-spec =
@@ -46,8 +40,6 @@ modulo-spec =
     size-requires-2
     rem-m
     fit-requires
-    returns-2
     fit-requires-2
-    returns-3
-    fit-requires-3
-    returns-4)
+    returns-2
+    returns-3)
