@@ -8,7 +8,8 @@ use native.Mathlib.Numerals.{add-one}
 use borrow.Author.Tests.{le-leb, ltb-false, eqb-true, eqb-false, ne-eqb, not-false}
 use borrow.Rule.Slice.PartMut.{putMid}
 use lib.Dec.{eqb}
-use lib.ListN.{length, getD, set}
+use lib.ListN.{length, getD, set, take, drop, length-drop}
+use lib.Seq.{length-take-le}
 use Rattle.image.specs.declared.head.Header.{Header}
 use Rattle.image.specs.declared.table.Refusal.{Refusal}
 use Rattle.image.specs.declared.reader.Reading.{Reading}
@@ -27,6 +28,11 @@ use Rattle.image.specs.Write.{body, check, blockWord, blockByte, imageBy
 pub sum-more : (f : ℕ → ℕ) (k s x : ℕ) → s ≡ sumTo f k % 65536 → x ≡ f k → (s + x) % 65536 ≡ sumTo f (k + 1) % 65536
 unfolding sumTo
 sum-more f k s x e h = rw add-one (omega arith)
+
+-- the same from s on
+pub sum-from : (f : ℕ → ℕ) (s j a x : ℕ) → a ≡ (s + sumTo f j) % 65536 → x ≡ f j → (a + x) % 65536 ≡ (s + sumTo f (j + 1)) % 65536
+unfolding sumTo
+sum-from f s j a x e h = rw add-one (omega arith)
 
 pub all-more : (p : ℕ → Bool) (k : ℕ) (ok now : Bool) → ok ≡ allTo p k → now ≡ p k → ok && now ≡ allTo p (k + 1)
 unfolding allTo
@@ -271,3 +277,40 @@ block-more h code i out out₀ part e p m = (ap length grown ∙ length-laid _ _
         rw
         (width-512 (512 * i), z, e, p, list-same (blockByte h code i) (imageByte h code) 0 (512 * i) 512 here)
         (laid-part (imageByte h code) (512 * i) 512 out₀)
+
+-- ---- one part more of the code: words of block i + 1, from its first content word on
+pub part-long : (a e : ℕ) (l : List ℕ) → a ≤ e → e ≤ length l → length (take (e - a) (drop a l)) ≡ e - a
+part-long a e l h m = length-take-le (e - a) (drop a l) (omega (arith, length-drop a l))
+
+module _ (bytes : List ℕ) (i : ℕ) (code code₀ part : List ℕ) (h : code ≡ laid (codeAt bytes) (254 * i) code₀) where
+  abbrev content-from : ℕ → ℕ
+  content-from j = wordAt bytes (256 * (1 + i) + 1 + j)
+
+  content-is : (j : ℕ) → j < 254 → content-from (0 + j) ≡ codeAt bytes (254 * i + j)
+  content-is j t =
+      let q : (254 * i + j) / 254 ≡ i = omega arith in
+      let r : (254 * i + j) % 254 ≡ 0 + j = omega arith in
+      rw (q, r)
+
+  part-laid : (k : ℕ) → k ≤ 254 → part ≡ listTo content-from k → putMid (254 * i) k code part ≡ laid (codeAt bytes) (254 * i + k) code₀
+  part-laid k m p =
+      rw
+      (p, h, list-same content-from (codeAt bytes) 0 (254 * i) k (λ j t. content-is j (omega arith)))
+      (laid-part (codeAt bytes) (254 * i) k code₀)
+
+  pub part-more :
+      (e : ℕ) →
+      let a : ℕ = 254 * i in
+      let new : List ℕ = putMid a (e - a) code part in
+      a ≤ e → e ≤ a + 254 → e ≤ length code₀ → part ≡ listTo content-from (length (take (e - a) (drop a code))) →
+      (length new ≡ length code₀) × (new ≡ laid (codeAt bytes) e code₀)
+  part-more e l l′ m p =
+      let same : length code ≡ length code₀ = ap length h ∙ length-laid (codeAt bytes) (254 * i) code₀ (omega arith) in
+      let long = part-long (254 * i) e code l (omega arith) in
+      let z : 254 * i + (e - 254 * i) ≡ e = omega arith in
+      let grown = part-laid (e - 254 * i) (omega arith) (rw long at p) ∙ ap (λ n. laid (codeAt bytes) n code₀) z in
+      (ap length grown ∙ length-laid _ _ _ m, grown)
+
+-- the fill stands in the last block
+pub fill-place : (n k : ℕ) → k < 254 * codeBlocks n - n → 256 * (1 + (n + k) / 254) + 1 + (n + k) % 254 ≡ n + 2 * codeBlocks n + 255 + k
+fill-place n k l = omega arith

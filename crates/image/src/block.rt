@@ -5,6 +5,21 @@ ghost use lib.ListN.{length, set};
 ghost use Rattle.notation.specs.Upto.{sumTo};
 ghost use Rattle.image.specs.Block.{wordAt, goodBlock};
 
+// A block in bytes and in words; how many of its words are content, and the place of the word that makes the sum right.
+pub(crate) const BYTES: usize = 512;
+
+pub(crate) const WORDS: usize = 256;
+
+pub(crate) const CONTENT: usize = 254;
+
+pub(crate) const CHECK: usize = 255;
+
+// What the words of a block sum to, as they wrap.
+pub(crate) const SUM: u16 = 65535;
+
+// A block is eight strips of so many words.
+const STRIP: usize = WORDS / 8;
+
 fn wide(x: u8) -> u16
     ensures { λ r. ⌜ (r ≡ x) × (r < 256) ⌝ }
 {
@@ -28,16 +43,29 @@ pub(crate) fn put_word(bytes: &mut [u8], k: usize, w: u16)
     bytes[2 * k + 1] = (w / 256) as u8;
 }
 
-// The wrapping sum of a block's words.
+// Word k of each of the eight strips, added to s as it wraps.
+fn add_eight(s: u16, block: &[u8], k: usize) -> u16
+    requires { ⌜ (length (now block) ≡ 512) × (k < 32) ⌝ }
+    ensures { λ r. ⌜ r ≡ (s + sumTo (λ j. wordAt (now (block .entry)) (32 * j + k)) 8) % 65536 ⌝ }
+{
+    let a = std::num::wrapping_add_u16(s, word(block, k));
+    let b = std::num::wrapping_add_u16(a, word(block, STRIP + k));
+    let c = std::num::wrapping_add_u16(b, word(block, 2 * STRIP + k));
+    let d = std::num::wrapping_add_u16(c, word(block, 3 * STRIP + k));
+    let e = std::num::wrapping_add_u16(d, word(block, 4 * STRIP + k));
+    let f = std::num::wrapping_add_u16(e, word(block, 5 * STRIP + k));
+    let g = std::num::wrapping_add_u16(f, word(block, 6 * STRIP + k));
+    std::num::wrapping_add_u16(g, word(block, 7 * STRIP + k))
+}
+
+// The wrapping sum of a block's words, eight a turn: by strips, so that the compiler can make vectors of the turns.
 pub(crate) fn sum(block: &[u8]) -> u16
     requires { ⌜ length (now block) ≡ 512 ⌝ }
     ensures { λ r. ⌜ r ≡ sumTo (wordAt (now (block .entry))) 256 % 65536 ⌝ }
 {
     let mut s: u16 = 0;
-    let mut k: usize = 0;
-    while k < 256 {
-        s = std::num::wrapping_add_u16(s, word(block, k));
-        k += 1;
+    for k in 0..STRIP {
+        s = add_eight(s, block, k);
     }
     s
 }
@@ -49,5 +77,5 @@ pub(crate) fn is_good(block: &[u8], number: usize) -> bool
 {
     let total = sum(block);
     let own = word(block, 0) as usize;
-    (total == 65535) & (own == number)
+    (total == SUM) & (own == number)
 }

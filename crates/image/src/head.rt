@@ -3,7 +3,15 @@ ghost use mathlib.Core.Path.{_≡_};
 ghost use Prim.Native.Nat.{_≤_};
 ghost use lib.ListN.{length};
 ghost use Rattle.image.specs.Header.{goodHeader, headerOf, restZero, codeBlocks};
+use crate::block::CONTENT;
 use crate::block::word;
+
+// The zeros after the header's four fields: where they begin in block 0, and how many there are.
+const REST_AT: usize = 5;
+
+const REST: usize = CONTENT - 4;
+
+const ROUND_UP: usize = CONTENT - 1;
 
 pub struct Header {
     pub edition: u16,
@@ -52,8 +60,8 @@ pub(crate) fn rest_is_zero(image: &[u8]) -> bool
     ensures { λ r. ⌜ r ≡ restZero (now (image .entry)) ⌝ }
 {
     let mut ok = true;
-    for k in 0..250usize {
-        let w = word(image, 5 + k);
+    for k in 0..REST {
+        let w = word(image, REST_AT + k);
         ok = ok & (w == 0);
     }
     ok
@@ -64,5 +72,5 @@ pub(crate) fn code_blocks(n: usize) -> usize
     requires { ⌜ n ≤ 65535 ⌝ }
     ensures { λ r. ⌜ r ≡ codeBlocks n ⌝ }
 {
-    (n + 253) / 254
+    (n + ROUND_UP) / CONTENT
 }

@@ -1,9 +1,9 @@
 // Reading an image: refusals 1 to 5 and 10 in the table's order, then the code.
 ghost use mathlib.Core.Path.{_≡_};
-ghost use Prim.Native.Nat.{_+_, _*_, _/_, _≤_};
+ghost use Prim.Native.Nat.{ℕ, _+_, _*_, _≤_, _<_};
 ghost use mathlib.Core.List.{[]};
 ghost use lib.ListN.{length};
-ghost use Rattle.notation.specs.Upto.{laid};
+ghost use Rattle.notation.specs.Upto.{listTo, laid};
 ghost use Rattle.image.specs.Block.{wordAt};
 ghost use Rattle.image.specs.Header.{fields, codeBlocks};
 ghost use Rattle.image.specs.Refusal.{taken, checkSays, _then_};
@@ -23,7 +23,7 @@ pub enum Reading {
 fn check_length(len: usize) -> Check
     ensures { λ r. ⌜ checkSays r ≡ refusal1 len ⌝ }
 {
-    let bad = (len == 0) | (len % 512 != 0);
+    let bad = (len == 0) | (len % block::BYTES != 0);
     if bad {
         Check::Failed(Refusal::Length)
     } else {
@@ -35,11 +35,11 @@ fn check_length(len: usize) -> Check
 fn check_blocks(image: &[u8]) -> Check
     ensures { λ r. ⌜ checkSays r ≡ refusal2 (now (image .entry)) ⌝ }
 {
-    let blocks = image.len() / 512;
+    let blocks = image.len() / block::BYTES;
     let mut i: usize = 0;
     while i < blocks {
-        let at = 512 * i;
-        let end = at + 512;
+        let at = block::BYTES * i;
+        let end = at + block::BYTES;
         let good = block::is_good(&image[at..end], i);
         if !good {
             return Check::Failed(Refusal::Block(i));
@@ -70,30 +70,24 @@ fn check_count(len: usize, n: usize) -> Check
     ensures { λ r. ⌜ checkSays r ≡ refusal4 len n ⌝ }
 {
     let count = 1 + head::code_blocks(n);
-    if len / 512 == count {
+    if len / block::BYTES == count {
         Check::Passed
     } else {
         Check::Failed(Refusal::Count)
     }
 }
 
-// Word k of the code.
-fn code_word(image: &[u8], k: usize) -> u16
-    requires { ⌜ 512 * (2 + k / 254) ≤ length (now image) ⌝ }
-    ensures { λ r. ⌜ r ≡ codeAt (now (image .entry)) k ⌝ }
-{
-    block::word(image, 256 * (1 + k / 254) + 1 + k % 254)
-}
-
-// 5: nonzero fill after the code.
+// 5: nonzero fill after the code. In the last block word k of the code is word k + 2 * blocks + 255 of the image.
 fn check_fill(image: &[u8], n: usize) -> Check
     requires { ⌜ (n ≤ 65535) × (512 * (1 + codeBlocks n) ≤ length (now image)) ⌝ }
     ensures { λ r. ⌜ checkSays r ≡ refusal5 (now (image .entry)) n ⌝ }
 {
-    let fill = 254 * head::code_blocks(n) - n;
+    let blocks = head::code_blocks(n);
+    let fill = block::CONTENT * blocks - n;
+    let first = n + 2 * blocks + block::CHECK;
     let mut zero = true;
     for k in 0..fill {
-        let w = code_word(image, n + k);
+        let w = block::word(image, first + k);
         zero = zero & (w == 0);
     }
     if zero {
@@ -159,14 +153,29 @@ pub fn examine(image: &[u8]) -> Reading
     }
 }
 
-// The first n words of the buffer become the code; the rest stays.
+// The part becomes the words from word at on.
+fn lay_words(image: &[u8], at: usize, part: &mut [u16])
+    requires { ⌜ ((k : ℕ) → k < length (now part) → 2 * (at + k) + 1 < length (now image)) ⌝ }
+    ensures { λ r. ⌜ now (part .exit) ≡ listTo (λ k. wordAt (now (image .entry)) (at + k)) (length (now (part .entry))) ⌝ }
+{
+    for k in 0..part.len() {
+        part[k] = block::word(image, at + k);
+    }
+}
+
+// The first n words of the buffer become the code, block by block; the rest stays.
 fn lay_code(image: &[u8], n: usize, code: &mut [u16])
     requires { ⌜ (n ≤ length (now code)) × (512 * (1 + codeBlocks n) ≤ length (now image)) ⌝ }
     ensures { λ r. ⌜ now (code .exit) ≡ laid (codeAt (now (image .entry))) n (now (code .entry)) ⌝ }
 {
-    for k in 0..n {
-        code[k] = code_word(image, k);
+    let full = n / block::CONTENT;
+    for i in 0..full {
+        let from = block::CONTENT * i;
+        let to = from + block::CONTENT;
+        lay_words(image, block::WORDS * (1 + i) + 1, &mut code[from..to]);
     }
+    let last = block::CONTENT * full;
+    lay_words(image, block::WORDS * (1 + full) + 1, &mut code[last..n]);
 }
 
 // The code of n words, where the image has it and the buffer has room; else nothing changes.
@@ -174,7 +183,7 @@ pub fn copy_code(image: &[u8], n: u16, code: &mut [u16])
     ensures { λ r. ⌜ now (code .exit) ≡ copied (now (image .entry)) n (now (code .entry)) ⌝ }
 {
     let words = n as usize;
-    let size = 512 * (1 + head::code_blocks(words));
+    let size = block::BYTES * (1 + head::code_blocks(words));
     let fits = (words <= code.len()) & (size <= image.len());
     if fits {
         lay_code(image, words, code);

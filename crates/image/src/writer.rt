@@ -58,7 +58,7 @@ fn check_all(h: Header, words: usize, room: usize) -> Check
     let Check::Passed = code else {
         return code;
     };
-    check_room(room, 512 * (1 + head::code_blocks(n)))
+    check_room(room, block::BYTES * (1 + head::code_blocks(n)))
 }
 
 // The header's field j, or zero after them.
@@ -82,7 +82,7 @@ fn content_word(h: Header, code: &[u16], i: usize, j: usize) -> u16
     if i == 0 {
         return field(h, j);
     }
-    let k = 254 * (i - 1) + j;
+    let k = block::CONTENT * (i - 1) + j;
     if k < code.len() { code[k] } else { 0 }
 }
 
@@ -104,12 +104,16 @@ fn write_block(h: Header, code: &[u16], i: usize, block: &mut [u8])
     ensures { λ r. ⌜ now (block .exit) ≡ listTo (blockByte h (now (code .entry)) i) 512 ⌝ }
 {
     let mut sum: u16 = 0;
-    for j in 0..255usize {
+    for j in 0..block::CHECK {
         let w = body_word(h, code, i, j);
         block::put_word(block, j, w);
         sum = std::num::wrapping_add_u16(sum, w);
     }
-    block::put_word(block, 255, std::num::wrapping_sub_u16(65535, sum));
+    block::put_word(
+        block,
+        block::CHECK,
+        std::num::wrapping_sub_u16(block::SUM, sum),
+    );
 }
 
 // The blocks of the image.
@@ -118,8 +122,8 @@ fn write_blocks(h: Header, code: &[u16], blocks: usize, out: &mut [u8])
     ensures { λ r. ⌜ now (out .exit) ≡ laid (imageByte h (now (code .entry))) (512 * blocks) (now (out .entry)) ⌝ }
 {
     for i in 0..blocks {
-        let at = 512 * i;
-        let end = at + 512;
+        let at = block::BYTES * i;
+        let end = at + block::BYTES;
         write_block(h, code, i, &mut out[at..end]);
     }
 }
@@ -141,8 +145,8 @@ pub fn write(header: Header, code: &[u16], out: &mut [u8]) -> Writing
     let blocks = 1 + head::code_blocks(header.length as usize);
     let check = check_all(header, code.len(), out.len());
     let Check::Passed = check else {
-        return written(check, 512 * blocks);
+        return written(check, block::BYTES * blocks);
     };
     write_blocks(header, code, blocks, out);
-    written(check, 512 * blocks)
+    written(check, block::BYTES * blocks)
 }

@@ -3,8 +3,9 @@ use mathlib.Core.Path.{_≡_, refl, sym, ap, _∙_}
 use mathlib.Core.Bool.{Bool, true, false, _&&_, _||_}
 use mathlib.Core.List.{List, [], _∷_, _++_, append-assoc, append-nil}
 use mathlib.Core.Logic.{_⊎_, inl, inr, ⊎-elim}
-use Prim.Native.Nat.{ℕ, zero, suc, _+_, _-_, _≤_, _<_}
+use Prim.Native.Nat.{ℕ, zero, suc, _+_, _-_, _*_, _≤_, _<_}
 use native.Mathlib.Omega.{arith}
+use native.Mathlib.Nat.{mul-zero, mul-suc}
 use native.Mathlib.Decide.{decLt}
 use native.Mathlib.Numerals.{add-one}
 use lib.ListN.{length, getD, take, drop, set, length-append, length-drop}
@@ -172,6 +173,31 @@ neither false false e = (refl, refl)
 pub sum-last : (f : ℕ → ℕ) (n : ℕ) → sumTo f (suc n) ≡ sumTo f n + f n
 unfolding sumTo
 sum-last f n = refl
+
+-- a sum in two parts; of two functions; by strips of m, one of each strip at a time
+pub sum-parts : (f : ℕ → ℕ) (n m : ℕ) → sumTo f (n + m) ≡ sumTo f n + sumTo (λ j. f (n + j)) m
+unfolding sumTo
+sum-parts f n zero = let z : n + zero ≡ n = omega arith in rw z (omega arith)
+sum-parts f n (suc m) = let z : n + suc m ≡ suc (n + m) = omega arith in let h = sum-parts f n m in rw z (omega (arith, h))
+
+sum-both : (f g : ℕ → ℕ) (n : ℕ) → sumTo (λ i. f i + g i) n ≡ sumTo f n + sumTo g n
+unfolding sumTo
+sum-both f g zero = refl
+sum-both f g (suc n) = omega (arith, sum-both f g n)
+
+sum-zero : (n : ℕ) → sumTo (λ i. 0) n ≡ 0
+unfolding sumTo
+sum-zero zero = refl
+sum-zero (suc n) = omega (arith, sum-zero n)
+
+pub sum-strips : (f : ℕ → ℕ) (m n : ℕ) → sumTo (λ i. sumTo (λ j. f (m * j + i)) n) m ≡ sumTo f (m * n)
+unfolding sumTo
+sum-strips f m zero = sum-zero m ∙ ap (sumTo f) (sym (mul-zero m))
+sum-strips f m (suc n) =
+    sum-both (λ i. sumTo (λ j. f (m * j + i)) n) (λ i. f (m * n + i)) m
+    ∙ ap (λ (k : ℕ). k + sumTo (λ i. f (m * n + i)) m) (sum-strips f m n)
+    ∙ sym (sum-parts f (m * n) m)
+    ∙ ap (sumTo f) (sym (mul-suc m n))
 
 -- ---- a number that is none of the first k is past them
 abbrev pub NoneOf : ℕ → ℕ → Type 0

@@ -1,10 +1,12 @@
-//! What the proved library costs beside plain Rust: loops of instructions, kernel calls and events, in one process.
+//! What the proved library costs beside plain Rust: loops of instructions, kernel calls, events and images, in one process.
 //!
 //!     bench                          the tables
+//!     bench images                   the table of images alone
 //!     bench names                    what can be counted
 //!     bench count SIDE NAME ROUNDS   one side, one row, for a count of the processor's instructions
 
 mod calls;
+mod images;
 mod interpreter;
 mod loops;
 mod side;
@@ -31,15 +33,18 @@ fn main() {
             loops::table();
             println!();
             calls::table();
+            println!();
+            images::table();
         }
-        ["names"] => loops::names().chain(calls::names()).for_each(|name| println!("{name}")),
+        ["images"] => images::table(),
+        ["names"] => loops::names().chain(calls::names()).chain(images::names()).for_each(|name| println!("{name}")),
         ["count", side, name, rounds] => {
             let mut side = if side == "proved" { Side::Proved } else { Side::plain() };
             let rounds = rounds.parse().expect("a number of rounds");
-            if !loops::count(&mut side, name, rounds) {
+            if !loops::count(&mut side, name, rounds) && !images::count(&side, name, rounds) {
                 calls::count(&mut side, name, rounds);
             }
         }
-        _ => eprintln!("bench | bench names | bench count proved|plain NAME ROUNDS"),
+        _ => eprintln!("bench | bench images | bench names | bench count proved|plain NAME ROUNDS"),
     }
 }

@@ -1,11 +1,12 @@
 -- Each turn tests one word more of the fill, and the loop ends at the fill's last word.
 use mathlib.Core.Path.{_≡_, refl, sym, ap, _∙_}
 use mathlib.Core.Bool.{not}
-use Prim.Native.Nat.{_+_, _*_, _-_, _≤_}
+use Prim.Native.Nat.{_+_, _*_, _-_, _/_, _%_, _≤_}
 use native.Mathlib.Omega.{arith}
 use borrow.Author.Needs.{needs}
 use lib.Dec.{eqb}
 use Rattle.notation.specs.Upto.{allTo}
+use Rattle.image.specs.Block.{wordAt}
 use Rattle.image.specs.Header.{codeBlocks}
 use Rattle.image.specs.Read.{refusal5, codeAt}
 use Rattle.image.proofs.Laws as L
@@ -13,10 +14,10 @@ use Rattle.image.proofs.reader.check_fill.Statement.{statement}
 use Rattle.image.proofs.reader.check_fill.Tie as tie
 
 abbrev Inv-loop : tie.InvT-loop
-Inv-loop image n fill zero₀ k₀ zero k = (k ≤ fill) × (zero ≡ allTo (λ j. eqb (codeAt image (n + j)) 0) k)
+Inv-loop image n blocks fill first zero₀ k₀ zero k = (k ≤ fill) × (zero ≡ allTo (λ j. eqb (codeAt image (n + j)) 0) k)
 
 abbrev μ-loop : tie.MeasureT-loop
-μ-loop image n fill zero₀ k₀ zero k = fill - k
+μ-loop image n blocks fill first zero₀ k₀ zero k = fill - k
 
 code-blocks-requires : tie.Need-code-blocks-requires Inv-loop μ-loop
 code-blocks-requires c κs = search needs
@@ -27,15 +28,24 @@ mul-fill c = search needs
 sub-fill : tie.Need-sub-fill Inv-loop μ-loop
 sub-fill c = search needs
 
+mul-first : tie.Need-mul-first Inv-loop μ-loop
+mul-first c = search needs
+
+add-first : tie.Need-add-first Inv-loop μ-loop
+add-first c = search needs
+
+add-first-2 : tie.Need-add-first-2 Inv-loop μ-loop
+add-first-2 c = search needs
+
 loop-holds : tie.Need-loop-holds Inv-loop μ-loop
 unfolding allTo
 loop-holds c = (search needs, refl)
 
-add-code-word : tie.Need-add-code-word Inv-loop μ-loop
-add-code-word c = search needs
+add-word : tie.Need-add-word Inv-loop μ-loop
+add-word c = search needs
 
-code-word-requires : tie.Need-code-word-requires Inv-loop μ-loop
-code-word-requires c κs = search needs
+word-requires : tie.Need-word-requires Inv-loop μ-loop
+word-requires c κs = search needs
 
 add-k : tie.Need-add-k Inv-loop μ-loop
 add-k c = search needs
@@ -44,7 +54,11 @@ loop-less : tie.Need-loop-less Inv-loop μ-loop
 loop-less c = search needs
 
 loop-again : tie.Need-loop-again Inv-loop μ-loop
-loop-again c = (omega arith, L.all-more _ _ _ _ (c .before .before .loop .inv .1) (ap (λ w. eqb w 0) (c .code-word .ensures)))
+loop-again c =
+    let n = c .before .before .before .before .before .args .n in
+    let k = c .before .before .loop .k in
+    let e : n + 2 * c .before .before .before .code-blocks .result + 255 + k ≡ 256 * (1 + (n + k) / 254) + 1 + (n + k) % 254 = omega (arith, c .before .before .before .code-blocks .ensures, L.fill-place n k (omega (arith, c .before .before .before .code-blocks .ensures))) in
+    (omega arith, L.all-more _ _ _ _ (c .before .before .loop .inv .1) (ap (λ w. eqb w 0) (c .word .ensures ∙ ap (wordAt (c .before .before .before .before .before .args .image .now)) e)))
 
 -- after the loop all of the fill is tested
 tested :
@@ -73,9 +87,12 @@ check-fill-spec =
     code-blocks-requires
     mul-fill
     sub-fill
+    mul-first
+    add-first
+    add-first-2
     loop-holds
-    add-code-word
-    code-word-requires
+    add-word
+    word-requires
     add-k
     loop-less
     loop-again
