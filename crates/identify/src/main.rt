@@ -42,7 +42,7 @@ fn devices(bits: u16) -> Line {
 }
 
 fn say_reading(bytes: &[u8]) {
-    let mut code = [0u16; 16256];
+    let mut code = [0u16; Header::MOST_LENGTH as usize];
     let answer = image::read(bytes, &mut code);
     match answer {
         Reading::Accepted(h) => say_header(h),

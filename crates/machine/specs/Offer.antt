@@ -16,8 +16,11 @@ use Rattle.machine.specs.Step.{Stepped, stepped, onward, withMachine, st
 use Rattle.machine.specs.Run.{run}
 
 -- 6: a lent store has the wrong length, or the code is not n words
+abbrev pub lengthsFit : ℕ → ℕ → Bool
+lengthsFit common private = eqb common 2048 && eqb private 20480
+
 abbrev pub storesFit : List ℕ → List ℕ → Bool
-storesFit common private = eqb (length common) 2048 && eqb (length private) 20480
+storesFit common private = lengthsFit (length common) (length private)
 
 abbrev pub refusal6 : World → Reply
 refusal6 w = refuse 6 (not (storesFit (w .common) (w .private)))

@@ -3,13 +3,14 @@ ghost use mathlib.Core.Path.{_≡_};
 ghost use mathlib.Core.Bool.{_&&_, _||_, not};
 ghost use mathlib.Core.List.{_++_};
 ghost use Prim.Native.Nat.{_≤_};
-ghost use lib.Dec.{eqb, ltb};
+ghost use lib.Dec.{ltb};
 ghost use lib.ListN.{length, drop};
 ghost use Rattle.image.specs.Refusal.{checkSays};
 ghost use Rattle.image.specs.Read.{refuse};
 ghost use Rattle.machine.specs.Device.{isBusy};
 ghost use Rattle.machine.specs.Sound.{sound};
 ghost use Rattle.plumbsorrel.specs.Record.{asksRecord, recordLeaves, cRecord};
+ghost use Rattle.machine.specs.Offer.{lengthsFit};
 use crate::number;
 use image::Check;
 use image::Refusal;
@@ -47,7 +48,7 @@ fn check_busy(m: Machine, d: u16) -> Check
 
 // 6, 7, 9 and 10, in the table's order: the first refusal returns at once.
 fn check_record(u: Unpacked, d: u16, common: usize, private: usize, room: usize) -> Check
-    ensures { λ r. ⌜ checkSays r ≡ asksRecord (eqb common 2048 && eqb private 20480) (u .known && sound (u .machine)) d (isBusy (u .machine) d) room ⌝ }
+    ensures { λ r. ⌜ checkSays r ≡ asksRecord (lengthsFit common private) (u .known && sound (u .machine)) d (isBusy (u .machine) d) room ⌝ }
 {
     let lent = run::check_stores(common, private);
     let Check::Passed = lent else {

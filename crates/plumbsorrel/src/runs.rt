@@ -3,11 +3,11 @@ ghost use mathlib.Core.Path.{_≡_};
 ghost use mathlib.Core.Bool.{_&&_, not};
 ghost use mathlib.Core.List.{List};
 ghost use Prim.Native.Nat.{ℕ};
-ghost use lib.Dec.{eqb};
 ghost use lib.ListN.{length};
 ghost use Rattle.image.specs.Refusal.{checkSays};
 ghost use Rattle.image.specs.Read.{refuse};
 ghost use Rattle.plumbsorrel.specs.Offers.{codeFits, leaves, cStep, cRun};
+ghost use Rattle.machine.specs.Offer.{lengthsFit};
 use crate::number;
 use crate::state;
 use image::Check;
@@ -34,7 +34,7 @@ fn code_fits(code: usize, state: &[u16]) -> bool
 
 // 6: a lent store has the wrong length, or the code is not n words.
 fn check_lent(code: usize, common: usize, private: usize, state: &[u16]) -> Check
-    ensures { λ r. ⌜ ((c : List ℕ) → length c ≡ code → checkSays r ≡ refuse 6 (not ((eqb common 2048 && eqb private 20480) && codeFits c (now (state .entry))))) ⌝ }
+    ensures { λ r. ⌜ ((c : List ℕ) → length c ≡ code → checkSays r ≡ refuse 6 (not (lengthsFit common private && codeFits c (now (state .entry))))) ⌝ }
 {
     let fits = code_fits(code, state);
     let fit = (common == Machine::COMMON) & (private == Machine::PRIVATE) & fits;

@@ -28,7 +28,7 @@ use Rattle.machine.specs.Sound.{sound}
 use Rattle.machine.specs.Offer.{refusal6, refusal7, refusal8, refusal9, Offered, did, refuses, offered, offerStep, offerTick, offerBell, offerDone, after, Offer, aStep, aTick, aDone, aBell, offer}
 use Rattle.machine.specs.Release.{isCompleted, byCall}
 use Rattle.promises.specs.SoundKept.{Shaped, afterAll}
-use Rattle.promises.specs.StoppedJob.{isInJob, Pending, staysInJob, resultOf, PendingJobNeverReturns0, PendingJobReturns, answers0, stopsJob, StoppedJobNeverReturns0, StoppedJobReturns}
+use Rattle.promises.specs.StoppedJob.{isInJob, Pending, staysInJob, resultOf, PendingJobNeverReturns0, PendingJobReturns, answers0, stopsJob, StoppedJobNeverReturns0, StoppedJobReturns, StillPending}
 use Rattle.promises.proofs.Laws.{idle-step}
 use Rattle.promises.proofs.Runs.{part, equal, in-job}
 use Rattle.promises.proofs.Marks.{Marked, marked}
@@ -260,6 +260,9 @@ first-pends code w q s shape e t =
     rw (← took .same) (by-out code w q (took .able) (ltb-true _ _ (b .0)) _ refl (b .1))
 
 -- ---- the theorems
+pub still-pending : StillPending
+still-pending code w why q xs p stay = all-pends code why q xs w p stay
+
 pub pending-job-returns : PendingJobReturns
 pending-job-returns code w why q xs x p stay n =
     let last = all-pends code why q xs w p stay in

@@ -45,6 +45,14 @@ WhenItEnds Says =
     → isInJob (after (afterAll code w xs) (offer code (afterAll code w xs) x)) q ≡ false
     → Says (after (afterAll code w xs) (offer code (afterAll code w xs) x)) q why
 
+-- as long as the job goes on, the stop stays pending: so a list of offers may be cut anywhere
+abbrev pub StillPending : Type 0
+StillPending =
+    (code : List ℕ) (w : World) (why q : ℕ) (xs : List Offer)
+    → Pending why q w
+    → staysInJob code w q xs ≡ true
+    → Pending why q (afterAll code w xs)
+
 -- the result is not 0; it is the reason, or the number of a fault
 abbrev pub isNot0 : World → ℕ → ℕ → Type 0
 isNot0 w q why = resultOf w q ≡ 0 → ⊥

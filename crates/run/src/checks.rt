@@ -2,17 +2,16 @@
 ghost use mathlib.Core.Path.{_≡_};
 ghost use mathlib.Core.Bool.{_&&_, not};
 ghost use lib.Dec.{eqb};
-ghost use Prim.Native.Nat.{ℕ};
 ghost use Rattle.image.specs.Refusal.{_then_, checkSays};
 ghost use Rattle.image.specs.Read.{refuse};
-ghost use Rattle.machine.specs.Offer.{refusal7, refusal8, refusal9};
+ghost use Rattle.machine.specs.Offer.{lengthsFit, refusal7, refusal8, refusal9};
 use image::Check;
 use image::Refusal;
 use machine::Machine;
 
 // 6: a lent store has the wrong length.
 pub fn check_stores(common: usize, private: usize) -> Check
-    ensures { λ r. ⌜ checkSays r ≡ refuse 6 (not (eqb common 2048 && eqb private 20480)) ⌝ }
+    ensures { λ r. ⌜ checkSays r ≡ refuse 6 (not (lengthsFit common private)) ⌝ }
 {
     let fit = (common == Machine::COMMON) & (private == Machine::PRIVATE);
     if fit {
@@ -24,7 +23,7 @@ pub fn check_stores(common: usize, private: usize) -> Check
 
 // 6: a lent store has the wrong length, or the code is not n words.
 fn check_lent(common: usize, private: usize, code: usize, n: usize) -> Check
-    ensures { λ r. ⌜ checkSays r ≡ refuse 6 (not ((eqb common 2048 && eqb private 20480) && eqb code n)) ⌝ }
+    ensures { λ r. ⌜ checkSays r ≡ refuse 6 (not (lengthsFit common private && eqb code n)) ⌝ }
 {
     let fit = (common == Machine::COMMON) & (private == Machine::PRIVATE) & (code == n);
     if fit {
@@ -70,7 +69,7 @@ pub(crate) fn check_machine(m: Machine) -> Check
 
 // 6 to 8, in the table's order, for a run.
 pub(crate) fn check_run(m: Machine, code: usize, common: usize, private: usize) -> Check
-    ensures { λ r. ⌜ checkSays r ≡ (refuse 6 (not ((eqb common 2048 && eqb private 20480) && eqb code (m .length))) then refusal7 m then refusal8 m) ⌝ }
+    ensures { λ r. ⌜ checkSays r ≡ (refuse 6 (not (lengthsFit common private && eqb code (m .length))) then refusal7 m then refusal8 m) ⌝ }
 {
     let lent = check_lent(common, private, code, m.length as usize);
     let Check::Passed = lent else {
@@ -97,7 +96,7 @@ fn check_done(m: Machine, d: u16, status: u16) -> Check
 
 // 6 to 9, in the table's order, for a done event.
 pub(crate) fn check_event(m: Machine, d: u16, status: u16, common: usize, private: usize) -> Check
-    ensures { λ r. ⌜ checkSays r ≡ (refuse 6 (not (eqb common 2048 && eqb private 20480)) then refusal7 m then refusal8 m then refusal9 m d status) ⌝ }
+    ensures { λ r. ⌜ checkSays r ≡ (refuse 6 (not (lengthsFit common private)) then refusal7 m then refusal8 m then refusal9 m d status) ⌝ }
 {
     let stores = check_stores(common, private);
     let Check::Passed = stores else {

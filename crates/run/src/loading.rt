@@ -1,13 +1,13 @@
 // Loading: an image becomes the fresh machine, with its code in the buffer and both stores cleared; or it is refused.
 ghost use mathlib.Core.Path.{_≡_};
-ghost use mathlib.Core.Bool.{_&&_, not};
-ghost use lib.Dec.{eqb};
+ghost use mathlib.Core.Bool.{not};
 ghost use lib.ListN.{length, replicate};
 ghost use Rattle.image.specs.Refusal.{taken, _then_};
 ghost use Rattle.image.specs.Header.{fields, headerOf};
 ghost use Rattle.image.specs.Read.{refuse, checks, readSays};
 ghost use Rattle.machine.specs.State.{fresh};
 ghost use Rattle.run.specs.Loaded.{empty, setUp, afterSetUp, loadGives, loadOutcome};
+ghost use Rattle.machine.specs.Offer.{lengthsFit};
 use crate::checks::check_stores;
 use image::Check;
 use image::Header;
@@ -47,7 +47,7 @@ fn clear(words: &mut [u16])
 
 // 1 to 6 and 10, in the table's order: the first refusal returns at once.
 pub fn check_load(image: &[u8], code: usize, common: usize, private: usize) -> Reading
-    ensures { λ r. ⌜ readSays r ≡ (checks (now (image .entry)) (refuse 6 (not (eqb common 2048 && eqb private 20480))) code then taken (fields (headerOf (now (image .entry))))) ⌝ }
+    ensures { λ r. ⌜ readSays r ≡ (checks (now (image .entry)) (refuse 6 (not (lengthsFit common private))) code then taken (fields (headerOf (now (image .entry))))) ⌝ }
 {
     let examined = image::examine(image);
     let Reading::Accepted(header) = examined else {

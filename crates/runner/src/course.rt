@@ -61,8 +61,8 @@ fn served(
     m: Machine,
     d: u8,
     path: &[u8],
-    common: &mut [u16; 2048],
-    private: &mut [u16; 20480],
+    common: &mut [u16; Machine::COMMON],
+    private: &mut [u16; Machine::PRIVATE],
 ) -> Machine {
     say_written(path, d, kernel::record(m, d, common, private));
     let x = run::done(m, d as u16, 0, 0, common, private);
@@ -75,8 +75,8 @@ fn followed(
     ended: Ended,
     o: Options,
     path: &[u8],
-    common: &mut [u16; 2048],
-    private: &mut [u16; 20480],
+    common: &mut [u16; Machine::COMMON],
+    private: &mut [u16; Machine::PRIVATE],
 ) -> Turn {
     match ended {
         Ended::Onward => on(m),
@@ -97,8 +97,8 @@ fn settled(
     x: Offered,
     o: Options,
     path: &[u8],
-    common: &mut [u16; 2048],
-    private: &mut [u16; 20480],
+    common: &mut [u16; Machine::COMMON],
+    private: &mut [u16; Machine::PRIVATE],
 ) -> Turn {
     let m = x.machine;
     let reply = x.reply;
@@ -146,8 +146,8 @@ pub(crate) fn follow(
     o: Options,
     path: &[u8],
     code: &[u16],
-    common: &mut [u16; 2048],
-    private: &mut [u16; 20480],
+    common: &mut [u16; Machine::COMMON],
+    private: &mut [u16; Machine::PRIVATE],
 ) -> Course {
     let mut machine = start;
     let mut count: u32 = 0;

@@ -6,6 +6,7 @@ mod report;
 
 use course::follow;
 use image::Reading;
+use machine::Machine;
 use options::Next;
 use options::Number;
 use options::Options;
@@ -56,9 +57,9 @@ fn say_refused(path: &[u8], reading: Reading) {
 
 // Loads the image and runs it; the code that the machine is lent is the first n words of its buffer.
 fn run_image(path: &[u8], bytes: &[u8], o: Options) {
-    let mut code = [0u16; 16256];
-    let mut common = [0u16; 2048];
-    let mut private = [0u16; 20480];
+    let mut code = [0u16; Machine::MOST_CODE];
+    let mut common = [0u16; Machine::COMMON];
+    let mut private = [0u16; Machine::PRIVATE];
     let loaded = run::load(bytes, &mut code, &mut common, &mut private);
     let reading = loaded.reading;
     let Reading::Accepted(header) = reading else {
@@ -67,7 +68,7 @@ fn run_image(path: &[u8], bytes: &[u8], o: Options) {
     };
     let m = loaded.machine;
     let n = header.length as usize;
-    if n <= 16256 {
+    if n <= Machine::MOST_CODE {
         let c = follow(m, o, path, &code[..n], &mut common, &mut private);
         show(path, c, &common, &private);
     }

@@ -16,7 +16,7 @@ pub(crate) enum Place {
 
 // The place of q in a queue, from 1; 0 where it is not in it.
 fn standing(queue: Queue, q: u8) -> u8 {
-    for i in 0..10u8 {
+    for i in 0..Machine::PROCESSES {
         if i < queue.len {
             if queue.at[i as usize] == q {
                 return i + 1;
@@ -26,18 +26,18 @@ fn standing(queue: Queue, q: u8) -> u8 {
     0
 }
 
-// The cell where q sits, or 8.
-fn cell_of(cells: [u8; 8], q: u8) -> u8 {
-    for c in 0..8u8 {
+// The cell where q sits, or one past the last.
+fn cell_of(cells: [u8; Machine::CELLS as usize], q: u8) -> u8 {
+    for c in 0..Machine::CELLS {
         if cells[c as usize] == q {
             return c;
         }
     }
-    8
+    Machine::CELLS
 }
 
 fn at_gate(m: Machine, q: u8) -> Place {
-    for g in 0..25u8 {
+    for g in 0..Machine::GATES {
         let gate = m.gates[g as usize];
         let queue = gate.queue;
         let cells = gate.cells;
@@ -46,7 +46,7 @@ fn at_gate(m: Machine, q: u8) -> Place {
             return Place::Gate(g, k);
         }
         let c = cell_of(cells, q);
-        if c < 8 {
+        if c < Machine::CELLS {
             return Place::Cell(g, c);
         }
     }

@@ -55,7 +55,7 @@ fn say_stop(f: u8, line: u16) {
 }
 
 fn all_ended(m: Machine) -> bool {
-    for q in 0..10u8 {
+    for q in 0..Machine::PROCESSES {
         let p = m.processes[q as usize];
         if q < m.created {
             if !p.ended {
@@ -115,7 +115,11 @@ fn say_budget(count: u32) {
         .say();
 }
 
-fn say_end<'a>(c: Course, common: &'a [u16; 2048], private: &'a [u16; 20480]) {
+fn say_end<'a>(
+    c: Course,
+    common: &'a [u16; Machine::COMMON],
+    private: &'a [u16; Machine::PRIVATE],
+) {
     let m = c.machine;
     let end = c.end;
     match end {
@@ -165,12 +169,12 @@ fn put_place(line: Line, p: Place) -> Line {
 }
 
 // The first n of the numbers, or a dash.
-fn put_list(line: Line, n: u8, numbers: [u8; 10]) -> Line {
+fn put_list(line: Line, n: u8, numbers: [u8; Machine::PROCESSES as usize]) -> Line {
     if n == 0 {
         return line.put(b"-");
     }
     let mut all = line;
-    for i in 0..10u8 {
+    for i in 0..Machine::PROCESSES {
         if i < n {
             if 0 < i {
                 all = all.put(b" ");
@@ -208,7 +212,7 @@ fn say_process(m: Machine, q: u8, p: Process) {
 
 fn say_processes(m: Machine) {
     say(b"  process  place                        class  address  line  in job  holds gates\n");
-    for q in 0..10u8 {
+    for q in 0..Machine::PROCESSES {
         if q < m.created {
             let p = m.processes[q as usize];
             say_process(m, q, p);
@@ -221,10 +225,10 @@ fn is_filled(cell: u8) -> bool {
 }
 
 // Each filled cell, with the process in it.
-fn put_cells(line: Line, cells: [u8; 8]) -> Line {
+fn put_cells(line: Line, cells: [u8; Machine::CELLS as usize]) -> Line {
     let mut all = line;
     let mut any = false;
-    for c in 0..8u8 {
+    for c in 0..Machine::CELLS {
         let q = cells[c as usize];
         if is_filled(q) {
             if any {
@@ -294,9 +298,9 @@ fn say_rest(n: usize) {
     }
 }
 
-fn say_common(common: &[u16; 2048]) {
+fn say_common(common: &[u16; Machine::COMMON]) {
     let mut n: usize = 0;
-    for a in 0..2048usize {
+    for a in 0..Machine::COMMON {
         let x = common[a];
         if x != 0 {
             say_word(n, a, x);
@@ -306,7 +310,12 @@ fn say_common(common: &[u16; 2048]) {
     say_rest(n);
 }
 
-pub(crate) fn show<'a>(path: &[u8], c: Course, common: &'a [u16; 2048], private: &'a [u16; 20480]) {
+pub(crate) fn show<'a>(
+    path: &[u8],
+    c: Course,
+    common: &'a [u16; Machine::COMMON],
+    private: &'a [u16; Machine::PRIVATE],
+) {
     let m = c.machine;
     say(path);
     say(b": ");

@@ -15,7 +15,7 @@ use Rattle.machine.specs.Offer.{Offer, offer, after}
 use Rattle.promises.specs.SoundKept.{afterAll}
 use Rattle.promises.proofs.Counts.{stands}
 use Rattle.waiting.specs.Count.{countIn}
-use Rattle.waiting.specs.Waiting.{holder, Waits, delayed, releasesAt, completesAt, releasesIn, completesIn, WaitsStill, HoldsThen, HoldsAtRelease, HeldWithin, bound, HoldsInTime}
+use Rattle.waiting.specs.Waiting.{holder, Waits, delayed, releasesAt, completesAt, releasesIn, completesIn, WaitsStill, HoldsThen, HoldsAtRelease, HeldWithin, bound, HoldsInTime, BoundHandedOn}
 use Rattle.waiting.proofs.Good.{Good, is-sound, next-good, later-good}
 use Rattle.waiting.proofs.Offers.{bit-most, Nth, nth, after-last, count-last}
 use Rattle.waiting.proofs.Places.{Stands, stands-of, place-of}
@@ -102,6 +102,9 @@ module _ (code : List ℕ) (w : World) (g k i : ℕ) (h : Good (w .machine)) (p 
     few : n < k → completesIn code w g xs < bound k (delayed w g)
     few l = omega (arith, moved l .1)
 
+    left : n < k → completesIn code w g xs + bound (k - n) (delayed (afterAll code w xs) g) ≤ bound k (delayed w g)
+    left l = omega (arith, moved l .1)
+
   -- the k-th release, and the offers before it
   held : (xs : List Offer) → Nth code (releasesAt code g) w xs (k - 1) → HeldWithin code w g k (bound k (delayed w g)) i xs
   held xs f =
@@ -132,3 +135,6 @@ holds-at-release code w g k i xs a b p =
 
 pub holds-in-time : HoldsInTime
 holds-in-time code w g k i xs a b p l = in-time code w g k i (record { shaped = a; sound = b }) p xs l
+
+pub bound-handed-on : BoundHandedOn
+bound-handed-on code w g k i xs a b p l = left code w g k i (record { shaped = a; sound = b }) p xs l

@@ -108,6 +108,16 @@ HoldsInTime =
     → bound k (delayed w g) ≤ completesIn code w g xs
     → HeldWithin code w g k (bound k (delayed w g)) i xs
 
+-- what is left of the bound after any offers before the k-th release suffices for what is left of the way: a list of offers may be cut anywhere
+abbrev pub BoundHandedOn : Type 0
+BoundHandedOn =
+    (code : List ℕ) (w : World) (g k i : ℕ) (xs : List Offer)
+    → Shaped (w .machine)
+    → sound (w .machine) ≡ true
+    → Waits w g k i
+    → releasesIn code w g xs < k
+    → completesIn code w g xs + bound (k - releasesIn code w g xs) (delayed (afterAll code w xs) g) ≤ bound k (delayed w g)
+
 -- with fewer than j selections process i is still ready, by as many places nearer, and does not run; in the j-th it is taken
 abbrev pub ReadyStill : List ℕ → World → ℕ → ℕ → List Offer → Type 0
 ReadyStill code w j i xs =
