@@ -20,13 +20,16 @@ extern "C" {
 
 /* Sizes, in words, and of a block in bytes. */
 enum {
-    PLUMBSORREL_STATE = 820,
+    PLUMBSORREL_STATE = 822,
     PLUMBSORREL_COMMON = 2048,
     PLUMBSORREL_PRIVATE = 20480,
     PLUMBSORREL_MOST_CODE = 16256,
     PLUMBSORREL_RECORD = 4,
     PLUMBSORREL_BLOCK = 512
 };
+
+/* The version of the state's layout: raised with every change of its words (docs/ABI.md has what each added). */
+enum { PLUMBSORREL_LAYOUT_VERSION = 2 };
 
 /* Places in the state: the stop's number (10 while the machine goes on), its line, the clock's seconds, n. */
 enum {
@@ -45,7 +48,7 @@ enum plumbsorrel_refusal {
     PLUMBSORREL_BAD_COUNT = 4,    /* the number of blocks is not 1 plus n/254 rounded up */
     PLUMBSORREL_BAD_FILL = 5,     /* a nonzero word after the code */
     PLUMBSORREL_BAD_STORE = 6,    /* a lent store has the wrong length, or the code is not n words */
-    PLUMBSORREL_UNSOUND = 7,      /* the state is not 820 words, no machine's, or not sound */
+    PLUMBSORREL_UNSOUND = 7,      /* the state is not 822 words, no machine's, or not sound */
     PLUMBSORREL_HAS_STOPPED = 8,  /* the machine has stopped */
     PLUMBSORREL_BAD_DEVICE = 9,   /* status above 6, no such device, device not busy */
     PLUMBSORREL_TOO_SHORT = 10    /* what is to be written to is too short */
@@ -72,7 +75,7 @@ static inline uint32_t plumbsorrel_count(uint64_t answer) { return (uint32_t)(an
 
 /* Loads an image: writes its code to the first n words of `code`, clears both stores and writes a fresh machine to
  * `state`, whatever stood there. Refuses with 1 to 5 (the image), 6 (a store's length), 10 (fewer than n words for
- * the code, or fewer than 820 for the state). Leaves the code buffer past n and the state past 820 as they were. */
+ * the code, or fewer than 822 for the state). Leaves the code buffer past n and the state past 822 as they were. */
 uint64_t plumbsorrel_load(const uint8_t *image, size_t image_length, uint16_t *code, size_t code_length,
                           uint16_t *common, size_t common_length, uint16_t *private_store, size_t private_length,
                           uint16_t *state, size_t state_length);

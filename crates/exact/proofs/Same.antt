@@ -23,7 +23,7 @@ use Rattle.machine.specs.declared.Gate.{Gate}
 use Rattle.machine.specs.declared.Process.{Process}
 use Rattle.machine.specs.declared.Machine.{Machine}
 use Rattle.machine.specs.declared.classes.Selection.{Selection}
-use Rattle.machine.specs.State.{noQueue, noProcess, proc, fresh, parts, withClass}
+use Rattle.machine.specs.State.{noQueue, noProcess, proc, fresh, parts, counted, withClass}
 use Rattle.exact.specs.Same.{SameAnswer, SameCheck, SameRead, SameReading, SameWriting, SameSelected, SameBetter, SameMay, SameStopAnswer}
 
 -- ---- two that say the same are equal, where each can be read off what it says
@@ -106,11 +106,12 @@ module _ (p : Process) (i : ℕ) where
   there = getD-replicate (suc i) i p noProcess (omega arith)
 
 pub same-selected : SameSelected
-same-selected ready i class r r′ f f′ =
+same-selected ready i class count mark r r′ f f′ =
     let p : Process = withClass noProcess class in
-    let m : Machine = having (enough p i) [] ready i 0 0 in
+    let m : Machine = counted (having (enough p i) [] ready i 0 0) count mark in
     let c : (proc m i) .class ≡ class = ap (λ (x : Process). x .class) (there p i) in
-    ap {B = Selection} (λ (x : Machine). record { ready = x .ready; running = x .running }) (f m refl refl (λ l. c) ∙ sym (f′ m refl refl (λ l. c)))
+    ap {B = Selection} (λ (x : Machine). record { ready = x .ready; running = x .running; count = x .count; mark = x .mark })
+    (f m refl refl (λ l. c) refl refl ∙ sym (f′ m refl refl (λ l. c) refl refl))
 
 pub same-better : SameBetter
 same-better ready class r r′ f f′ = let m : Machine = having [] [] ready 0 0 0 in f m refl ∙ sym (f′ m refl)

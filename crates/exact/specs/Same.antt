@@ -19,8 +19,9 @@ use Rattle.machine.specs.declared.Gate.{Gate}
 use Rattle.machine.specs.declared.Process.{Process}
 use Rattle.machine.specs.declared.Machine.{Machine}
 use Rattle.machine.specs.declared.classes.Selection.{Selection}
-use Rattle.machine.specs.State.{proc, with}
+use Rattle.machine.specs.State.{proc}
 use Rattle.machine.specs.Classes.{best, select}
+use Rattle.machine.specs.Parts.{afterwards}
 use Rattle.machine.specs.Gate.{mayEnter, mayLeave, mayContinue, mayDelay}
 use Rattle.machine.specs.Call.{stopAnswer}
 
@@ -62,12 +63,13 @@ SameWriting =
     → (r ≡ r′) × (after ≡ after′)
 
 -- ---- machine: `selected` and `is_better_ready`, promised for every machine that has these parts
-abbrev pub FitsSelected : List Queue → ℕ → ℕ → Selection → Type 0
-FitsSelected ready i class r =
-    (m : Machine) → m .ready ≡ ready → m .running ≡ i → (i < 10 → (proc m i) .class ≡ class) → with m (m .processes) (m .gates) (r .ready) (r .running) ≡ select m
+abbrev pub FitsSelected : List Queue → ℕ → ℕ → ℕ → Bool → Selection → Type 0
+FitsSelected ready i class count mark r =
+    (m : Machine) → m .ready ≡ ready → m .running ≡ i → (i < 10 → (proc m i) .class ≡ class) → m .count ≡ count → m .mark ≡ mark
+    → afterwards m r ≡ select m
 
 abbrev pub SameSelected : Type 0
-SameSelected = (ready : List Queue) (i class : ℕ) → OneFits (FitsSelected ready i class)
+SameSelected = (ready : List Queue) (i class count : ℕ) (mark : Bool) → OneFits (FitsSelected ready i class count mark)
 
 abbrev pub FitsBetter : List Queue → ℕ → Bool → Type 0
 FitsBetter ready class r = (m : Machine) → m .ready ≡ ready → r ≡ (ltb (best m) class && ltb (best m) 3)

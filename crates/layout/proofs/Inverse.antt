@@ -4,10 +4,10 @@ use mathlib.Core.Bool.{Bool, true, _&&_}
 use mathlib.Core.List.{List, [], _∷_, _++_}
 use Prim.Native.Nat.{ℕ, suc, _+_, _*_, _<_}
 use native.Mathlib.Omega.{arith}
-use borrow.Author.Tests.{eq-eqb}
+use borrow.Author.Tests.{eq-eqb, lt-ltb}
 use lib.Dec.{ltb}
 use lib.ListN.{length, getD, length-append}
-use Rattle.notation.specs.Upto.{listFrom, listTo}
+use Rattle.notation.specs.Upto.{allTo, listFrom, listTo}
 use Rattle.notation.proofs.Upto.{both, all-at, all-of, getD-list, list-same, list-append}
 use Rattle.word.specs.Word.{bit}
 use Rattle.machine.specs.declared.Queue.{Queue}
@@ -18,7 +18,7 @@ use Rattle.machine.specs.declared.Device.{Device}
 use Rattle.machine.specs.declared.Machine.{Machine}
 use Rattle.machine.specs.State.{noProcess, noGate, noQueue, noDevice, proc, gate, ready, device}
 use Rattle.promises.specs.SoundKept.{Shaped}
-use Rattle.layout.specs.Layout.{rows, queueWords, gateWords, regsWords, processWords, deviceWords, numberWords, packed, from, queueOf, gateOf, regsOf, processOf, deviceOf, unpacked, bytes, processFits, fits}
+use Rattle.layout.specs.Layout.{rows, queueWords, gateWords, regsWords, processWords, deviceWords, numberWords, packed, from, queueOf, gateOf, regsOf, processOf, deviceOf, unpacked, bytes, processFits, fits, stateWords}
 use Rattle.layout.specs.Read.{Fitting}
 use Rattle.layout.specs.Inverse.{Small, Bytes, PackedFits, UnpackedPacked, PackedUnpacked}
 use Rattle.layout.proofs.Laws.{bytes-shifted, fitting}
@@ -64,9 +64,9 @@ module _ (ws : List ℕ) where
       let z : 0 + i ≡ i = omega arith in
       ap f (getD-list g 0 n i d l) ∙ rw z (h i l) ∙ cut (a + len i) k)
 
-  whole-cut : length ws ≡ 820 → listFrom word 0 820 ≡ ws
+  whole-cut : length ws ≡ stateWords → listFrom word 0 stateWords ≡ ws
   unfolding word
-  whole-cut e = list-of 0 word ws 820 e (λ k l. refl)
+  whole-cut e = list-of 0 word ws stateWords e (λ k l. refl)
 
   module _ (e : Fitting ws) where
     processes-cut : rows (λ i. processWords (proc (unpacked ws) i)) 10 ≡ listFrom word 0 240
@@ -103,15 +103,15 @@ module _ (ws : List ℕ) where
     unfolding unpacked
     bell-cut = queue-cut (from ws 784) ∙ cut 784 11
 
-    numbers-cut : numberWords (unpacked ws) ≡ listFrom word 810 10
+    numbers-cut : numberWords (unpacked ws) ≡ listFrom word 810 12
     unfolding unpacked listFrom word
-    numbers-cut = refl
+    numbers-cut = rw (bool-word (getD ws 821 0) (e .mark))
 
     packed-unpacked′ : packed (unpacked ws) ≡ ws
     unfolding packed
     packed-unpacked′ =
         rw
-        (processes-cut, gates-cut, ready-cut, clock-cut, bell-cut, devices-cut, numbers-cut, ← list-append word 0 240 500, ← list-append word 0 740 33, ← list-append word 0 773 11, ← list-append word 0 784 11, ← list-append word 0 795 15, ← list-append word 0 810 10)
+        (processes-cut, gates-cut, ready-cut, clock-cut, bell-cut, devices-cut, numbers-cut, ← list-append word 0 240 500, ← list-append word 0 740 33, ← list-append word 0 773 11, ← list-append word 0 784 11, ← list-append word 0 795 15, ← list-append word 0 810 12)
         (whole-cut (e .long))
 
 pub packed-unpacked : PackedUnpacked
@@ -256,7 +256,7 @@ module _ (m : Machine) (s : Shaped m) where
   unfolding ws packed to-devices to-bell to-clock to-ready to-gates processes gates queues devices
   packed-is = refl
 
-  packed-long : length ws ≡ 820
+  packed-long : length ws ≡ stateWords
   packed-long = ap length packed-is ∙ length-append to-devices (numberWords m) ∙ omega (arith, to-devices-long)
 
   word-of : ℕ → ℕ
@@ -335,14 +335,14 @@ module _ (m : Machine) (s : Shaped m) where
   devices-back : listTo (λ d. deviceOf (from ws (795 + 3 * d))) 5 ≡ m .devices
   devices-back = list-of noDevice _ (m .devices) 5 (s .devices) (λ d l. device-of _ (device m d) (says-device d l))
 
-  number : (k : ℕ) → k < 10 → getD ws (810 + k) 0 ≡ getD (numberWords m) k 0
+  number : (k : ℕ) → k < 12 → getD ws (810 + k) 0 ≡ getD (numberWords m) k 0
   number k l = says-numbers .at k l
 
   unpacked-ws : unpacked ws ≡ m
   unfolding unpacked
   unpacked-ws =
       rw
-      (processes-back, gates-back, ready-back, queue-of _ (m .clock) (s .clock) says-clock, queue-of _ (m .bell) (s .bell) says-bell, devices-back, number 0 (omega arith), number 1 (omega arith), number 2 (omega arith), number 3 (omega arith), number 4 (omega arith), number 5 (omega arith), number 6 (omega arith), number 7 (omega arith), number 8 (omega arith), number 9 (omega arith))
+      (processes-back, gates-back, ready-back, queue-of _ (m .clock) (s .clock) says-clock, queue-of _ (m .bell) (s .bell) says-bell, devices-back, number 0 (omega arith), number 1 (omega arith), number 2 (omega arith), number 3 (omega arith), number 4 (omega arith), number 5 (omega arith), number 6 (omega arith), number 7 (omega arith), number 8 (omega arith), number 9 (omega arith), number 10 (omega arith), number 11 (omega arith), bool-of (m .mark))
 
   -- ---- and fit
   module _ (b : Bytes m) where
@@ -380,13 +380,20 @@ module _ (m : Machine) (s : Shaped m) where
     numbers-fit : bytes (from ws 810) 4 ≡ true
     numbers-fit =
         let small : List ℕ = m .running ∷ m .created ∷ m .made ∷ m .stop ∷ [] in
-        bytes-of _ small (left _ small (m .line ∷ m .seconds ∷ m .fraction ∷ m .edition ∷ m .length ∷ m .present ∷ []) says-numbers) (b .numbers)
+        bytes-of _ small (left _ small (m .line ∷ m .seconds ∷ m .fraction ∷ m .edition ∷ m .length ∷ m .present ∷ m .count ∷ bit (m .mark) ∷ []) says-numbers) (b .numbers)
+
+    count-fits : bytes (from ws 820) 1 ≡ true
+    unfolding allTo
+    count-fits = rw (number 10 (omega arith)) (lt-ltb _ _ (b .count 0))
+
+    mark-fits : ltb (getD ws 821 0) 2 ≡ true
+    mark-fits = rw (number 11 (omega arith)) (bool-fits (m .mark))
 
     ws-fits : fits ws ≡ true
     unfolding fits
     ws-fits =
         rw
-        (eq-eqb (length ws) 820 packed-long, all-of (λ i. processFits (from ws (24 * i))) 10 process-fits, queues-fit, all-of (λ d. bytes (from ws (795 + 3 * d)) 2) 5 devices-fit, numbers-fit)
+        (eq-eqb (length ws) stateWords packed-long, all-of (λ i. processFits (from ws (24 * i))) 10 process-fits, queues-fit, all-of (λ d. bytes (from ws (795 + 3 * d)) 2) 5 devices-fit, numbers-fit, count-fits, mark-fits)
 
 pub unpacked-packed : UnpackedPacked
 unfolding ws

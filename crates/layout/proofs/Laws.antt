@@ -105,8 +105,10 @@ module _ (ws : List ℕ) (at : ℕ) (e : processFits (from ws at) ≡ true) wher
 pub fitting : (ws : List ℕ) → fits ws ≡ true → Fitting ws
 unfolding fits
 fitting ws e =
-    let d = both _ _ e in
+    let f = both _ _ e in
+    let h = both _ _ (f .0) in
+    let d = both _ _ (h .0) in
     let c = both _ _ (d .0) in
     let b = both _ _ (c .0) in
     let a = both _ _ (b .0) in
-    record { long = eqb-true _ _ (a .0); processes = a .1; queues = b .1; devices = c .1; numbers = d .1 }
+    record { long = eqb-true _ _ (a .0); processes = a .1; queues = b .1; devices = c .1; numbers = d .1; count = h .1; mark = f .1 }

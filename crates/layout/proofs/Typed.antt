@@ -79,6 +79,9 @@ module _ (ws : List ℕ) (e : Fitting ws) where
   small-numbers : Small (listTo (from ws 810) 4)
   small-numbers = cut-small _ 4 (λ k l. byte-at ws 810 4 k (e .numbers) l)
 
+  small-count : Small (listTo (from ws 820) 1)
+  small-count = cut-small _ 1 (λ k l. byte-at ws 820 1 k (e .count) l)
+
   typed-bytes : Bytes (unpacked ws)
   unfolding unpacked listFrom
   typed-bytes =
@@ -90,6 +93,7 @@ module _ (ws : List ℕ) (e : Fitting ws) where
         bell = small-at 544 11 (omega arith);
         devices = λ d l. small-same _ _ (ap (λ (x : Device). x .process ∷ x .operation ∷ []) (at-device d l)) (small-device d l);
         numbers = small-numbers;
+        count = small-count;
       }
 
 pub unpacked-typed : UnpackedTyped

@@ -22,6 +22,7 @@ pub record Bytes (m : Machine) : Type 0 where
   pub bell : Small (queueWords (m .bell))
   pub devices : (d : ℕ) → d < 5 → Small ((device m d) .process ∷ (device m d) .operation ∷ [])
   pub numbers : Small (m .running ∷ m .created ∷ m .made ∷ m .stop ∷ [])
+  pub count : Small (m .count ∷ [])
 
 -- a machine's words fit
 abbrev pub PackedFits : Type 0

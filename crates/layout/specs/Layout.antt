@@ -1,4 +1,4 @@
--- The machine's state as 820 words: the words of each part stand one after the other, in the order written here
+-- The machine's state as words: those of each part stand one after the other, in the order written here
 use mathlib.Core.Bool.{Bool, true, false, _&&_}
 use mathlib.Core.List.{List, [], _∷_, _++_}
 use Prim.Native.Nat.{ℕ, zero, suc, _+_, _*_}
@@ -39,9 +39,15 @@ processWords p =
 abbrev pub deviceWords : Device → List ℕ
 deviceWords d = d .process ∷ d .operation ∷ d .address ∷ []
 
+-- the machine's numbers; what a request of document 02 adds stands at the end (W-212: the count and the mark)
 abbrev pub numberWords : Machine → List ℕ
 numberWords m =
-    m .running ∷ m .created ∷ m .made ∷ m .stop ∷ m .line ∷ m .seconds ∷ m .fraction ∷ m .edition ∷ m .length ∷ m .present ∷ []
+    m .running ∷ m .created ∷ m .made ∷ m .stop ∷ m .line ∷ m .seconds ∷ m .fraction ∷ m .edition ∷ m .length ∷ m .present
+    ∷ m .count ∷ bit (m .mark) ∷ []
+
+-- how many words the whole state has
+abbrev pub stateWords : ℕ
+stateWords = 822
 
 unfoldable pub packed : Machine → List ℕ
 packed m =
@@ -113,9 +119,11 @@ unpacked ws =
       edition = getD ws 817 0;
       length = getD ws 818 0;
       present = getD ws 819 0;
+      count = getD ws 820 0;
+      mark = eqb (getD ws 821 0) 1;
     }
 
--- ---- which words are a machine's: 820, with a byte where the type has one, and 0 or 1 where it has a bool
+-- ---- which words are a machine's: so many, with a byte where the type has one, and 0 or 1 where it has a bool
 abbrev pub bytes : (ℕ → ℕ) → ℕ → Bool
 bytes w n = allTo (λ k. ltb (w k) 256) n
 
@@ -125,11 +133,13 @@ processFits w = ltb (w 5) 2 && bytes (λ k. w (12 + k)) 11 && ltb (w 23) 2
 -- the gates and the queues are bytes throughout
 unfoldable pub fits : List ℕ → Bool
 fits ws =
-    eqb (length ws) 820
+    eqb (length ws) stateWords
     && allTo (λ i. processFits (from ws (24 * i))) 10
     && bytes (from ws 240) 555
     && allTo (λ d. bytes (from ws (795 + 3 * d)) 2) 5
     && bytes (from ws 810) 4
+    && bytes (from ws 820) 1
+    && ltb (getD ws 821 0) 2
 
 -- the machine of words that fit; a fresh one of an empty header, not known, of others
 unfoldable pub unpackedIf : List ℕ → Unpacked

@@ -4,7 +4,7 @@ ghost use mathlib.Core.Bool.{true};
 ghost use Prim.Native.Nat.{_+_, _*_, _≤_};
 ghost use lib.ListN.{length};
 ghost use Rattle.notation.specs.Upto.{allTo, listTo};
-ghost use Rattle.layout.specs.Layout.{from, queueOf, gateOf, regsOf, processOf, deviceOf, bytes, processFits, unpacked};
+ghost use Rattle.layout.specs.Layout.{from, queueOf, gateOf, regsOf, processOf, deviceOf, bytes, processFits, unpacked, stateWords};
 ghost use Rattle.layout.specs.Read.{Fitting};
 use machine::Device;
 use machine::Gate;
@@ -100,7 +100,7 @@ fn device(words: &[u16], at: usize) -> Device
 }
 
 fn processes(words: &[u16]) -> [Process; Machine::PROCESSES as usize]
-    requires { ⌜ (length (now words) ≡ 820) × (allTo (λ i. processFits (from (now words) (24 * i))) 10 ≡ true) ⌝ }
+    requires { ⌜ (length (now words) ≡ stateWords) × (allTo (λ i. processFits (from (now words) (24 * i))) 10 ≡ true) ⌝ }
     ensures { λ r. ⌜ r ≡ listTo (λ i. processOf (from (now (words .entry)) (24 * i))) 10 ⌝ }
 {
     let unused = Process::started(0, 0);
@@ -113,7 +113,7 @@ fn processes(words: &[u16]) -> [Process; Machine::PROCESSES as usize]
 }
 
 fn gates(words: &[u16]) -> [Gate; Machine::GATES as usize]
-    requires { ⌜ (length (now words) ≡ 820) × (bytes (from (now words) 240) 555 ≡ true) ⌝ }
+    requires { ⌜ (length (now words) ≡ stateWords) × (bytes (from (now words) 240) 555 ≡ true) ⌝ }
     ensures { λ r. ⌜ r ≡ listTo (λ g. gateOf (from (now (words .entry)) (240 + 20 * g))) 25 ⌝ }
 {
     let none = Queue {
@@ -134,7 +134,7 @@ fn gates(words: &[u16]) -> [Gate; Machine::GATES as usize]
 }
 
 fn ready(words: &[u16]) -> [Queue; 3]
-    requires { ⌜ (length (now words) ≡ 820) × (bytes (from (now words) 240) 555 ≡ true) ⌝ }
+    requires { ⌜ (length (now words) ≡ stateWords) × (bytes (from (now words) 240) 555 ≡ true) ⌝ }
     ensures { λ r. ⌜ r ≡ listTo (λ c. queueOf (from (now (words .entry)) (740 + 11 * c))) 3 ⌝ }
 {
     let none = Queue {
@@ -150,7 +150,7 @@ fn ready(words: &[u16]) -> [Queue; 3]
 }
 
 fn devices(words: &[u16]) -> [Device; 5]
-    requires { ⌜ (length (now words) ≡ 820) × (allTo (λ d. bytes (from (now words) (795 + 3 * d)) 2) 5 ≡ true) ⌝ }
+    requires { ⌜ (length (now words) ≡ stateWords) × (allTo (λ d. bytes (from (now words) (795 + 3 * d)) 2) 5 ≡ true) ⌝ }
     ensures { λ r. ⌜ r ≡ listTo (λ d. deviceOf (from (now (words .entry)) (795 + 3 * d))) 5 ⌝ }
 {
     let idle = Device {
@@ -193,5 +193,7 @@ pub(crate) fn machine(words: &[u16]) -> Machine
         edition: words[817],
         length: words[818],
         present: words[819],
+        count: words[820] as u8,
+        mark: words[821] == 1,
     }
 }

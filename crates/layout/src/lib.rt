@@ -1,9 +1,9 @@
-// The machine's state as a slice of 820 words. The layout is in specs/Layout.antt.
+// The machine's state as a slice of words. The layout is in specs/Layout.antt.
 ghost use mathlib.Core.Path.{_≡_};
 ghost use lib.ListN.{length};
 ghost use lib.Dec.{eqb};
 ghost use Rattle.notation.specs.If.{if};
-ghost use Rattle.layout.specs.Layout.{packed, unpackedIf};
+ghost use Rattle.layout.specs.Layout.{packed, unpackedIf, stateWords};
 ghost use Rattle.layout.specs.Write.{Put};
 use image::Header;
 use machine::Machine;
@@ -11,6 +11,9 @@ use machine::Machine;
 mod get;
 mod put;
 mod test;
+
+// How many there are. A request that adds to the state appends its words, and raises the layout's version (docs/ABI.md).
+pub const WORDS: usize = 822;
 
 // A machine that words say, where it is known.
 pub struct Unpacked {
@@ -20,8 +23,8 @@ pub struct Unpacked {
 
 // The words of every part.
 fn put_all(m: Machine, words: &mut [u16])
-    requires { ⌜ length (now words) ≡ 820 ⌝ }
-    ensures { λ r. ⌜ Put (now (words .entry)) 0 (packed m) 820 (now (words .exit)) ⌝ }
+    requires { ⌜ length (now words) ≡ stateWords ⌝ }
+    ensures { λ r. ⌜ Put (now (words .entry)) 0 (packed m) stateWords (now (words .exit)) ⌝ }
 {
     let processes = m.processes;
     let gates = m.gates;
@@ -38,11 +41,11 @@ fn put_all(m: Machine, words: &mut [u16])
     put::numbers(words, m);
 }
 
-// The machine's words, where there are 820; else false, and no word is changed.
+// The machine's words, where there are so many; else false, and no word is changed.
 pub fn pack(m: Machine, words: &mut [u16]) -> bool
-    ensures { λ r. ⌜ (r ≡ eqb (length (now (words .entry))) 820) × (now (words .exit) ≡ if (eqb (length (now (words .entry))) 820) (packed m) (now (words .entry))) ⌝ }
+    ensures { λ r. ⌜ (r ≡ eqb (length (now (words .entry))) stateWords) × (now (words .exit) ≡ if (eqb (length (now (words .entry))) stateWords) (packed m) (now (words .entry))) ⌝ }
 {
-    if words.len() != 820 {
+    if words.len() != WORDS {
         return false;
     }
     put_all(m, words);

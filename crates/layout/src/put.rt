@@ -3,7 +3,7 @@ ghost use mathlib.Core.Path.{_≡_};
 ghost use Prim.Native.Nat.{_+_, _≤_};
 ghost use lib.ListN.{length, getD};
 ghost use Rattle.machine.specs.State.{noProcess, noGate, noQueue, noDevice};
-ghost use Rattle.layout.specs.Layout.{rows, queueWords, gateWords, regsWords, processWords, deviceWords, numberWords};
+ghost use Rattle.layout.specs.Layout.{rows, queueWords, gateWords, regsWords, processWords, deviceWords, numberWords, stateWords};
 ghost use Rattle.layout.specs.Write.{Put};
 use machine::Device;
 use machine::Gate;
@@ -114,8 +114,8 @@ fn device(to: &mut [u16], at: usize, d: Device)
 }
 
 pub(crate) fn numbers(to: &mut [u16], m: Machine)
-    requires { ⌜ length (now to) ≡ 820 ⌝ }
-    ensures { λ r. ⌜ Put (now (to .entry)) 810 (numberWords m) 10 (now (to .exit)) ⌝ }
+    requires { ⌜ length (now to) ≡ stateWords ⌝ }
+    ensures { λ r. ⌜ Put (now (to .entry)) 810 (numberWords m) 12 (now (to .exit)) ⌝ }
 {
     let all = [
         m.running as u16,
@@ -128,12 +128,14 @@ pub(crate) fn numbers(to: &mut [u16], m: Machine)
         m.edition,
         m.length,
         m.present,
+        m.count as u16,
+        m.mark as u16,
     ];
     words(to, 810, &all);
 }
 
 pub(crate) fn processes(to: &mut [u16], all: [Process; Machine::PROCESSES as usize])
-    requires { ⌜ length (now to) ≡ 820 ⌝ }
+    requires { ⌜ length (now to) ≡ stateWords ⌝ }
     ensures { λ r. ⌜ Put (now (to .entry)) 0 (rows (λ i. processWords (getD all i noProcess)) 10) 240 (now (to .exit)) ⌝ }
 {
     for i in 0..10 {
@@ -143,7 +145,7 @@ pub(crate) fn processes(to: &mut [u16], all: [Process; Machine::PROCESSES as usi
 }
 
 pub(crate) fn gates(to: &mut [u16], all: [Gate; Machine::GATES as usize])
-    requires { ⌜ length (now to) ≡ 820 ⌝ }
+    requires { ⌜ length (now to) ≡ stateWords ⌝ }
     ensures { λ r. ⌜ Put (now (to .entry)) 240 (rows (λ g. gateWords (getD all g noGate)) 25) 500 (now (to .exit)) ⌝ }
 {
     for g in 0..25 {
@@ -153,7 +155,7 @@ pub(crate) fn gates(to: &mut [u16], all: [Gate; Machine::GATES as usize])
 }
 
 pub(crate) fn ready(to: &mut [u16], all: [Queue; 3])
-    requires { ⌜ length (now to) ≡ 820 ⌝ }
+    requires { ⌜ length (now to) ≡ stateWords ⌝ }
     ensures { λ r. ⌜ Put (now (to .entry)) 740 (rows (λ c. queueWords (getD all c noQueue)) 3) 33 (now (to .exit)) ⌝ }
 {
     for c in 0..3 {
@@ -163,7 +165,7 @@ pub(crate) fn ready(to: &mut [u16], all: [Queue; 3])
 }
 
 pub(crate) fn devices(to: &mut [u16], all: [Device; 5])
-    requires { ⌜ length (now to) ≡ 820 ⌝ }
+    requires { ⌜ length (now to) ≡ stateWords ⌝ }
     ensures { λ r. ⌜ Put (now (to .entry)) 795 (rows (λ d. deviceWords (getD all d noDevice)) 5) 15 (now (to .exit)) ⌝ }
 {
     for d in 0..5 {

@@ -3,7 +3,7 @@ ghost use mathlib.Core.Path.{_≡_};
 ghost use Prim.Native.Nat.{_+_, _*_, _≤_};
 ghost use lib.ListN.{length};
 ghost use Rattle.notation.specs.Upto.{allTo};
-ghost use Rattle.layout.specs.Layout.{from, bytes, processFits, fits};
+ghost use Rattle.layout.specs.Layout.{from, bytes, processFits, fits, stateWords};
 
 // So many words are bytes.
 fn are_bytes(words: &[u16], at: usize, n: usize) -> bool
@@ -26,7 +26,7 @@ fn process_fits(words: &[u16], at: usize) -> bool
 }
 
 fn processes_fit(words: &[u16]) -> bool
-    requires { ⌜ length (now words) ≡ 820 ⌝ }
+    requires { ⌜ length (now words) ≡ stateWords ⌝ }
     ensures { λ r. ⌜ r ≡ allTo (λ i. processFits (from (now (words .entry)) (24 * i))) 10 ⌝ }
 {
     let mut ok = true;
@@ -38,7 +38,7 @@ fn processes_fit(words: &[u16]) -> bool
 }
 
 fn devices_fit(words: &[u16]) -> bool
-    requires { ⌜ length (now words) ≡ 820 ⌝ }
+    requires { ⌜ length (now words) ≡ stateWords ⌝ }
     ensures { λ r. ⌜ r ≡ allTo (λ d. bytes (from (now (words .entry)) (795 + 3 * d)) 2) 5 ⌝ }
 {
     let mut ok = true;
@@ -52,12 +52,13 @@ fn devices_fit(words: &[u16]) -> bool
 pub(crate) fn fit(words: &[u16]) -> bool
     ensures { λ r. ⌜ r ≡ fits (now (words .entry)) ⌝ }
 {
-    if words.len() != 820 {
+    if words.len() != crate::WORDS {
         return false;
     }
     let processes = processes_fit(words);
     let queues = are_bytes(words, 240, 555);
     let devices = devices_fit(words);
     let numbers = are_bytes(words, 810, 4);
-    processes & queues & devices & numbers
+    let count = are_bytes(words, 820, 1);
+    processes & queues & devices & numbers & count & (words[821] < 2)
 }

@@ -19,7 +19,7 @@ use Rattle.machine.specs.Classes.{push, setRunning, someReady, wake}
 use Rattle.machine.specs.Queue.{rest}
 use Rattle.machine.specs.Gate.{advance, cell, giveUp, grant, handOn, pass, sit}
 use Rattle.machine.specs.Parts.{handedOn, handOver, lostGate, resumed}
-use Rattle.machine.specs.Call.{born, placeChild, stopAnswer, stopJob}
+use Rattle.machine.specs.Call.{born, stopAnswer, stopJob}
 use Rattle.machine.proofs.Laws.{get-past, set-past}
 
 -- the gate with x in its cell, and the gate given up
@@ -137,12 +137,9 @@ module _ (m : Machine) (t v : ℕ) (long : length (m .processes) ≡ 10) where
       (λ l. rw (lt-ltb (m .created) 10 l, getD-set-same (m .processes) (m .created) (started t v) noProcess (omega (arith, long, l))))
       (λ l. rw (le-ltb (m .created) 10 l, set-past (m .processes) 10 (m .created) long l (started t v), get-past (m .processes) 10 (m .created) long l noProcess))
 
-  pub placed-first : born (if (someReady m 0 || someReady m 1) (push m (if (ltb (m .created) 10) 2 0) (m .created)) (setRunning m (m .created))) t v ≡ placeChild (born m t v) (m .created)
-  unfolding born placeChild push setRunning wake
-  placed-first =
-      split (someReady m 0 || someReady m 1)
-      (λ w. rw (w, ← child-class))
-      (λ w. rw w)
+  pub placed-first : born (push m (if (ltb (m .created) 10) 2 0) (m .created)) t v ≡ wake (born m t v) (m .created)
+  unfolding born push wake
+  placed-first = rw (← child-class)
 
 -- a process that is not there becomes nothing
 pub nobody-becomes : (m : Machine) (h : ℕ) (p : Process) → length (m .processes) ≡ 10 → nobody ≤ h → m ≡ withProcess m h p

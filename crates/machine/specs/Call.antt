@@ -12,7 +12,7 @@ use Rattle.machine.specs.declared.Machine.{Machine}
 use Rattle.machine.specs.State.{nobody, proc, floorOf, parts, more, started, withProcess, withRegs, changed}
 use Rattle.machine.specs.Store.{World, own, Place, placeOf, whole, wordIn, commonWith, privateWith}
 use Rattle.machine.specs.View.{marks}
-use Rattle.machine.specs.Classes.{setRunning, wake, someReady}
+use Rattle.machine.specs.Classes.{setRunning, wake}
 use Rattle.machine.specs.Gate.{enter, leave, delay, continue, makeGate, mayEnter, mayLeave, mayDelay, mayContinue}
 use Rattle.machine.specs.Clock.{clockWait, bellWait}
 use Rattle.machine.specs.Device.{isPresent, isBusy, deviceStart, withWord}
@@ -83,12 +83,10 @@ born m t v =
     (more (m .created) 10)
     (m .made)
 
--- "The parent goes to the tail of its class; the child runs if classes 0 and 1 are empty, else it joins class 2"
-unfoldable pub placeChild : Machine → ℕ → Machine
-placeChild m child = if (someReady m 0 || someReady m 1) (wake m child) (setRunning m child)
-
+-- "the parent goes to the tail of its class as before, a new child then always joins class 2, and a selection follows":
+-- it starts in class 2
 unfoldable pub createProcess : Machine → ℕ → ℕ → Machine
-createProcess m t v = placeChild (born (wake (setRunning m nobody) (m .running)) t v) (m .created)
+createProcess m t v = wake (born (wake (setRunning m nobody) (m .running)) t v) (m .created)
 
 -- "its part is cleared, then the p words stand first in the order pushed": the first pushed lies deepest
 unfoldable pub newPart : World → ℕ → List ℕ

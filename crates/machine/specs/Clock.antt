@@ -1,10 +1,11 @@
 -- The clock and the bell: who waits for them, and how they wake
 use Prim.Native.Nat.{ℕ, zero, suc, _+_}
+use mathlib.Core.Bool.{false}
 use lib.Dec.{leb, ltb, eqb}
 use Rattle.notation.specs.If.{if}
 use Rattle.machine.specs.declared.Process.{Process}
 use Rattle.machine.specs.declared.Machine.{Machine}
-use Rattle.machine.specs.State.{nobody, proc, timed, withWaits, withProcess, changed}
+use Rattle.machine.specs.State.{nobody, proc, timed, counted, withWaits, withProcess, changed}
 use Rattle.machine.specs.Queue.{first, pushed, rest}
 use Rattle.machine.specs.Classes.{setRunning, wake, best, select}
 
@@ -50,12 +51,12 @@ sliced p slice class = changed p (p .regs) slice class (p .holds) (p .held) (p .
 unfoldable pub yields : Machine → ℕ → Machine
 yields m h = if (leb (best m) ((proc m h) .class)) (wake (setRunning m nobody) h) m
 
--- "The running process's slice grows by 10; at 200 it is 0 again"
+-- "The running process's slice grows by 10; at 200 it is 0 again"; the mark ends there, also of one that runs on
 unfoldable pub slicePasses : Machine → ℕ → Machine
 slicePasses m h =
     let p : Process = proc m h in
     if (leb 200 (p .slice + 10))
-    (yields (withProcess m h (sliced p 0 (fallen (p .class)))) h)
+    (yields (withProcess (counted m (m .count) false) h (sliced p 0 (fallen (p .class)))) h)
     (withProcess m h (sliced p (p .slice + 10) (p .class)))
 
 -- "Tick: 10 units of 1/10,000 s", and the selection after it

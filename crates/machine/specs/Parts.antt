@@ -9,13 +9,18 @@ use Rattle.notation.specs.If.{if}
 use Rattle.machine.specs.declared.Gate.{Gate}
 use Rattle.machine.specs.declared.Process.{Process}
 use Rattle.machine.specs.declared.Machine.{Machine}
+use Rattle.machine.specs.declared.classes.Selection.{Selection}
 use Rattle.machine.specs.declared.clock.Waking.{Waking}
 use Rattle.machine.specs.declared.gates.Handed.{Handed}
-use Rattle.machine.specs.State.{newQueue, nobody, noProcess, proc, with, withProcess}
+use Rattle.machine.specs.State.{newQueue, nobody, noProcess, proc, with, counted, withProcess}
 use Rattle.machine.specs.Queue.{first, rest}
 use Rattle.machine.specs.Classes.{joined, wake}
 use Rattle.machine.specs.Clock.{fallen, sliced}
 use Rattle.machine.specs.Gate.{entered, given}
+
+-- ---- the machine with what a selection changes
+abbrev pub afterwards : Machine → Selection → Machine
+afterwards m r = counted (with m (m .processes) (m .gates) (r .ready) (r .running)) (r .count) (r .mark)
 
 -- ---- who waits for the clock or the bell wakes: the ready queues, and who still waits
 unfoldable pub oneWoken : List Process → Waking → Waking

@@ -152,6 +152,9 @@ numbersOk m =
     -- at most one runs; ready is empty when nobody runs
     && someone m (m .running)
     && (ltb (m .running) nobody || allTo (λ c. eqb ((ready m c) .len) 0) 3)
+    -- the count is 0 to 8; a mark only while somebody runs
+    && leb (m .count) 8
+    && (ltb (m .running) nobody || not (m .mark))
 
 unfoldable pub sound : Machine → Bool
 sound m =

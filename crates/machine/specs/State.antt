@@ -94,6 +94,8 @@ fresh h =
       edition = h .edition;
       length = h .length;
       present = h .devices;
+      count = 0;
+      mark = false;
     }
 
 -- ---- a machine with some of its parts anew
@@ -116,6 +118,8 @@ parts m ps gs qs clock bell ds running created made =
       edition = m .edition;
       length = m .length;
       present = m .present;
+      count = m .count;
+      mark = m .mark;
     }
 
 -- its time, and its stop
@@ -138,6 +142,32 @@ timed m stop line seconds fraction =
       edition = m .edition;
       length = m .length;
       present = m .present;
+      count = m .count;
+      mark = m .mark;
+    }
+
+-- its count of selections, and its mark
+abbrev pub counted : Machine → ℕ → Bool → Machine
+counted m count mark =
+    record {
+      processes = m .processes;
+      gates = m .gates;
+      ready = m .ready;
+      clock = m .clock;
+      bell = m .bell;
+      devices = m .devices;
+      running = m .running;
+      created = m .created;
+      made = m .made;
+      stop = m .stop;
+      line = m .line;
+      seconds = m .seconds;
+      fraction = m .fraction;
+      edition = m .edition;
+      length = m .length;
+      present = m .present;
+      count = count;
+      mark = mark;
     }
 
 abbrev pub with : Machine → List Process → List Gate → List Queue → ℕ → Machine

@@ -1,5 +1,6 @@
 // The clock and the bell: who waits for them, how they wake, and the slice.
 ghost use mathlib.Core.Path.{_≡_};
+ghost use mathlib.Core.Bool.{true, false};
 ghost use lib.Dec.{leb};
 ghost use Rattle.notation.specs.If.{if};
 ghost use Rattle.machine.specs.declared.Machine.{Machine};
@@ -9,7 +10,6 @@ ghost use Rattle.machine.specs.Parts.{woken, aged};
 use crate::Machine;
 use crate::Process;
 use crate::Queue;
-use crate::classes::Selection;
 use crate::classes::best_of;
 use crate::classes::joined;
 
@@ -36,20 +36,26 @@ impl Process {
     }
 }
 
+// The ready queues, and who runs.
+struct Seats {
+    ready: [Queue; 3],
+    running: u8,
+}
+
 // At its slice's end, the process goes to the tail of its class if one of its class or better is ready.
-fn yielded(ready: [Queue; 3], running: u8, h: u8, class: u8, over: bool) -> Selection
-    ensures { λ r. ⌜ ((m : Machine) → m .ready ≡ ready → m .running ≡ running → (proc m h) .class ≡ class → with m (m .processes) (m .gates) (r .ready) (r .running) ≡ if over (yields m h) m) ⌝ }
+fn yielded(ready: [Queue; 3], running: u8, h: u8, class: u8, over: bool) -> Seats
+    ensures { λ r. ⌜ ((m : Machine) → m .ready ≡ ready → m .running ≡ running → (proc m h) .class ≡ class → (over ≡ true → m .mark ≡ false) → with m (m .processes) (m .gates) (r .ready) (r .running) ≡ if over (yields m h) m) ⌝ }
 {
     let best = best_of(ready);
     let now = over & (best <= class);
     if now {
         let more = joined(ready, class, h);
-        Selection {
+        Seats {
             ready: more,
             running: Machine::NOBODY,
         }
     } else {
-        Selection { ready, running }
+        Seats { ready, running }
     }
 }
 
@@ -98,6 +104,7 @@ impl Machine {
         let more = q.pushed(self.running);
         self.clock = more;
         self.running = Machine::NOBODY;
+        self.mark = false;
         self
     }
 
@@ -109,6 +116,7 @@ impl Machine {
         let more = q.pushed(self.running);
         self.bell = more;
         self.running = Machine::NOBODY;
+        self.mark = false;
         self
     }
 
@@ -133,7 +141,7 @@ impl Machine {
         self
     }
 
-    // The slice of who ran grows by 10; at 200 it is 0 again, class 1 falls to 2, and the process may have to yield.
+    // The slice of who ran grows by 10; at 200 it is 0 again, class 1 falls to 2, a mark ends, and the process may have to yield.
     fn slice_passes(mut self, h: u8) -> Machine
         ensures { λ r. ⌜ r ≡ if (leb 10 h) self (slicePasses self h) ⌝ }
     {
@@ -142,6 +150,8 @@ impl Machine {
             let older = p.aged();
             self.processes[h as usize] = older;
             let over = Machine::LAST_UNITS <= p.slice;
+            let mark = self.mark;
+            self.mark = mark & !over;
             let ready = self.ready;
             let x = yielded(ready, self.running, h, older.class, over);
             let now = x.ready;

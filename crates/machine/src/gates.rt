@@ -189,6 +189,7 @@ impl Machine {
         // a gate that is not there has a holder, 0: the caller waits
         if Machine::GATES <= g {
             self.running = Machine::NOBODY;
+            self.mark = false;
             return self;
         }
         let mut w = self.gates[g as usize];
@@ -198,6 +199,7 @@ impl Machine {
             w.queue = last;
             self.gates[g as usize] = w;
             self.running = Machine::NOBODY;
+            self.mark = false;
             return self;
         }
         if i < Machine::PROCESSES {
@@ -226,6 +228,7 @@ impl Machine {
     {
         let i = self.running;
         self.running = Machine::NOBODY;
+        self.mark = false;
         let gates = self.gates;
         let w = gate_of(gates, g);
         self.hand_over(g, i, w.seat(c, i).handed_on())

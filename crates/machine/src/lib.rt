@@ -59,6 +59,7 @@ pub struct Device {
     pub address: u16,
 }
 
+// The count is of selections from class 0 or 1 while class 2 is not empty; the mark is the running process's.
 // Nobody runs, holds, sits or waits where the number is 10; the machine is stopped unless stop is 10.
 pub struct Machine {
     pub processes: [Process; Machine::PROCESSES as usize],
@@ -77,6 +78,8 @@ pub struct Machine {
     pub edition: u16,
     pub length: u16,
     pub present: u16,
+    pub count: u8,
+    pub mark: bool,
 }
 
 impl Process {
@@ -145,6 +148,9 @@ impl Machine {
 
     pub const LAST_REASON: u16 = 255;
 
+    // After so many selections from class 0 or 1 while class 2 is not empty, the next is from class 2.
+    pub const MOST_COUNT: u8 = 8;
+
     pub const NOBODY: u8 = 10;
 
     pub const GOING: u8 = 10;
@@ -206,6 +212,8 @@ impl Machine {
             edition: header.edition,
             length: header.length,
             present: header.devices,
+            count: 0,
+            mark: false,
         }
     }
 }

@@ -7,7 +7,7 @@ ghost use lib.ListN.{set};
 ghost use Rattle.notation.specs.If.{if};
 ghost use Rattle.machine.specs.declared.Machine.{Machine};
 ghost use Rattle.machine.specs.State.{proc, withProcess};
-ghost use Rattle.machine.specs.Classes.{push, setRunning, someReady};
+ghost use Rattle.machine.specs.Classes.{push};
 ghost use Rattle.machine.specs.Call.{born, createProcess, over, finish, stopAnswer, stopJob};
 use crate::ready::push;
 use crate::ready::set_running;
@@ -36,21 +36,14 @@ fn born(mut m: Machine, t: u16, v: u16) -> Machine
     m
 }
 
-// The child runs if classes 0 and 1 are empty, else it joins class 2; of an eleventh there is no record, and its class is 0.
+// The child joins class 2; of an eleventh there is no record, and its class is 0.
 fn place_child(m: Machine, child: u8) -> Machine
-    ensures { λ r. ⌜ r ≡ if (someReady m 0 || someReady m 1) (push m (if (ltb child 10) 2 0) child) (setRunning m child) ⌝ }
+    ensures { λ r. ⌜ r ≡ push m (if (ltb child 10) 2 0) child ⌝ }
 {
-    let first = m.ready[0];
-    let second = m.ready[1];
-    let waits = (0 < first.len) | (0 < second.len);
-    if waits {
-        if child < Machine::PROCESSES {
-            push(m, 2, child)
-        } else {
-            push(m, 0, child)
-        }
+    if child < Machine::PROCESSES {
+        push(m, 2, child)
     } else {
-        set_running(m, child)
+        push(m, 0, child)
     }
 }
 

@@ -3,11 +3,12 @@ ghost use mathlib.Core.Path.{_≡_};
 ghost use Rattle.machine.specs.Classes.{push, setRunning, wake};
 use machine::Machine;
 
-// h runs, or nobody does.
+// h runs, or nobody does; no mark outlives who ran.
 pub(crate) fn set_running(mut m: Machine, h: u8) -> Machine
     ensures { λ r. ⌜ r ≡ setRunning m h ⌝ }
 {
     m.running = h;
+    m.mark = false;
     m
 }
 

@@ -20,7 +20,7 @@ use Rattle.machine.specs.Store.{World}
 use Rattle.machine.specs.Sound.{sound}
 use Rattle.machine.specs.Offer.{Offered, did, refuses}
 use Rattle.layout.specs.declared.Unpacked.{Unpacked}
-use Rattle.layout.specs.Layout.{packed, unpacked, fits, unpackedIf}
+use Rattle.layout.specs.Layout.{packed, unpacked, fits, unpackedIf, stateWords}
 use Rattle.layout.proofs.Laws.{fitting}
 use Rattle.layout.proofs.Inverse.{packed-unpacked}
 use Rattle.run.specs.declared.answer.Offered.{Offered as Given}
@@ -87,12 +87,12 @@ module _ (state common private : List ℕ) (bad : Bool) (offer : World → Offer
     pub answered :
         k ≡ Passed → (x : Given) (c q : List ℕ) →
         given x c q ≡ outcome (world (u .machine) common private) (offer (world (u .machine) common private)) →
-        (r : ℕ) (new : List ℕ) → (r ≡ answerNumber (answerOf (x .reply)) (x .count)) × (new ≡ if (eqb (length state) 820) (packed (x .machine)) state) →
+        (r : ℕ) (new : List ℕ) → (r ≡ answerNumber (answerOf (x .reply)) (x .count)) × (new ≡ if (eqb (length state) stateWords) (packed (x .machine)) state) →
         leaves r new c q ≡ crossed state common private (refuse 6 bad) offer
     answered t x c q g r new z =
         let known = not-false (u .known) (passed-row 7 (not (u .known)) k says t) in
         let f : fits state ≡ true = sym (same-known state u e) ∙ known in
-        let l : eqb (length state) 820 ≡ true = eq-eqb (length state) 820 ((fitting state f) .long) in
+        let l : eqb (length state) stateWords ≡ true = eq-eqb (length state) stateWords ((fitting state f) .long) in
         let n : new ≡ packed (x .machine) = rw l at (z .1) in
         let g′ : given x c q ≡ outcome (world (unpacked state) common private) (offer (world (unpacked state) common private)) = rw (machine-is state u e f) at g in
         rw (n, fit, f) (leaves-left state common private c q x (unpacked state) (offer (world (unpacked state) common private)) r (packed-unpacked state f) g′ (z .0))

@@ -27,7 +27,7 @@ use Rattle.machine.specs.State.{fresh}
 use Rattle.machine.specs.Store.{World}
 use Rattle.machine.specs.Offer.{storesFit}
 use Rattle.machine.specs.Load.{Loading, loaded, loadedBy, loads}
-use Rattle.layout.specs.Layout.{packed}
+use Rattle.layout.specs.Layout.{packed, stateWords}
 use Rattle.run.specs.Loaded.{SetUp, setUp, afterSetUp, LoadOutcome, loadLeft as loadOf}
 use Rattle.run.proofs.Loads.{load-taken}
 use Rattle.plumbsorrel.specs.Number.{replyNumber, loadNumber, values, blockNamed}
@@ -79,10 +79,10 @@ pub in-memory : (bytes : List ℕ) (b : ℕ) → b ≤ blocks bytes → length b
 in-memory bytes b l m = omega arith
 
 -- ---- loading
-pub packed-first : (m : Machine) (state part : List ℕ) → 820 ≤ length state → part ≡ if (eqb (length (take 820 state)) 820) (packed m) (take 820 state) → part ++ drop 820 state ≡ packed m ++ drop 820 state
+pub packed-first : (m : Machine) (state part : List ℕ) → stateWords ≤ length state → part ≡ if (eqb (length (take stateWords state)) stateWords) (packed m) (take stateWords state) → part ++ drop stateWords state ≡ packed m ++ drop stateWords state
 packed-first m state part l e =
-    let z : eqb (length (take 820 state)) 820 ≡ true = eq-eqb (length (take 820 state)) 820 (length-take-le 820 state l) in
-    ap (λ (ws : List ℕ). ws ++ drop 820 state) (rw z at e)
+    let z : eqb (length (take stateWords state)) stateWords ≡ true = eq-eqb (length (take stateWords state)) stateWords (length-take-le stateWords state l) in
+    ap (λ (ws : List ℕ). ws ++ drop stateWords state) (rw z at e)
 
 fresh-length : (h : Header) → (fresh h) .length ≡ h .length
 unfolding fresh
@@ -120,14 +120,14 @@ module _ (bytes code common private state : List ℕ) (x : Reading)
       let z : asks ≡ refusedBy r = was-refused asks (fields (headerOf bytes)) (numberOf r) (named r) (rw t at (sym e)) in
       rw (t, z)
 
-  module _ (h : Header) (t : x ≡ Accepted h) (k : Check) (says : checkSays k ≡ refusal10 (length state) 820) where
+  module _ (h : Header) (t : x ≡ Accepted h) (k : Check) (says : checkSays k ≡ refusal10 (length state) stateWords) where
     passes : (ws : List ℕ) × (taken ws ≡ asks)
     passes = (through-all asks (fields (headerOf bytes)) (fields h) (taken []) (rw t at (sym e))) .0
 
     -- 10, for the state
     pub state-little : blockNamed (checkSays k) < 36028797018963968
     unfolding refusal10
-    state-little = little 10 (ltb (length state) 820) k says
+    state-little = little 10 (ltb (length state) stateWords) k says
 
     pub state-short : (y : Refusal) → k ≡ Failed y → loadLeaves (replyNumber (checkSays k)) code common private state ≡ cLoad bytes code common private state
     unfolding cLoad
@@ -147,7 +147,7 @@ module _ (bytes code common private state : List ℕ) (x : Reading)
     pub load-leaves :
         k ≡ Passed → (m : Machine) (code′ common′ private′ : List ℕ) →
         setUp m code′ common′ private′ ≡ afterSetUp bytes h code common private →
-        (new : List ℕ) → new ≡ packed m ++ drop 820 state →
+        (new : List ℕ) → new ≡ packed m ++ drop stateWords state →
         loadLeaves (256 * h .length) code′ common′ private′ new ≡ cLoad bytes code common private state
     unfolding cLoad
     load-leaves u m code′ common′ private′ s new n =
@@ -155,9 +155,9 @@ module _ (bytes code common private state : List ℕ) (x : Reading)
         load-taken bytes common private code x e h t ∙ ap (loadOf bytes code common private) is-loaded in
         let q : setUp m code′ common′ private′ ≡ setUp (fresh (headerOf bytes)) code-laid (replicate 2048 0) (replicate 20480 0) = s ∙ ap (λ (y : LoadOutcome). y .after) o in
         let f : 256 * h .length ≡ 256 * wordAt bytes 2 = ap (λ (y : LoadOutcome). loadNumber (y .reply)) (rw t at o) in
-        let r : taken [] ≡ refusal10 (length state) 820 = rw u at says in
-        let d : loadedBy (asks then refusal10 (length state) 820) (loads bytes common private code) ≡ loaded fresh-world code-laid =
-        by-both asks (refusal10 (length state) 820) (passes .0) [] (loads bytes common private code) (passes .1) r ∙ is-loaded in
+        let r : taken [] ≡ refusal10 (length state) stateWords = rw u at says in
+        let d : loadedBy (asks then refusal10 (length state) stateWords) (loads bytes common private code) ≡ loaded fresh-world code-laid =
+        by-both asks (refusal10 (length state) stateWords) (passes .0) [] (loads bytes common private code) (passes .1) r ∙ is-loaded in
         rw (
           n,
           d,

@@ -7,7 +7,7 @@ use Rattle.image.specs.Refusal.{_then_}
 use Rattle.image.specs.Read.{refusal10}
 use Rattle.image.specs.Write.{writing, bytesAfter}
 use Rattle.machine.specs.Load.{Loading, loaded, unloaded, loadedBy, loadChecks, loads}
-use Rattle.layout.specs.Layout.{packed}
+use Rattle.layout.specs.Layout.{packed, stateWords}
 use Rattle.plumbsorrel.specs.Number.{replyNumber}
 
 abbrev pub header : ℕ → ℕ → ℕ → ℕ → Header
@@ -30,14 +30,14 @@ loadLeaves number code common private state =
 -- it names
 abbrev pub loadLeft : List ℕ → List ℕ → List ℕ → List ℕ → Loading → LoadLeft
 loadLeft code common private state (loaded w c) =
-    loadLeaves (256 * w .machine .length) c (w .common) (w .private) (packed (w .machine) ++ drop 820 state)
+    loadLeaves (256 * w .machine .length) c (w .common) (w .private) (packed (w .machine) ++ drop stateWords state)
 loadLeft code common private state (unloaded k vs) = loadLeaves (k + 256 * getD vs 0 0) code common private state
 
--- the state is an output of loading: 10 where it has fewer than 820 words; of more, only the first 820 are touched
+-- the state is an output of loading: 10 where it has fewer words than a state has; of more, only so many are touched
 unfoldable pub cLoad : List ℕ → List ℕ → List ℕ → List ℕ → List ℕ → LoadLeft
 cLoad bytes code common private state =
     loadLeft code common private state
-    (loadedBy (loadChecks bytes common private code then refusal10 (length state) 820) (loads bytes common private code))
+    (loadedBy (loadChecks bytes common private code then refusal10 (length state) stateWords) (loads bytes common private code))
 
 -- ---- writing: the number that it answers, and the output after it
 pub record WriteLeft : Type 0 where

@@ -10,7 +10,7 @@ use Rattle.image.specs.Read.{refuse}
 use Rattle.machine.specs.Store.{World}
 use Rattle.machine.specs.Sound.{sound}
 use Rattle.machine.specs.Offer.{Offered, did, refuses, storesFit, offerStep, offerRun, offerTick, offerBell, offerDone}
-use Rattle.layout.specs.Layout.{packed, unpacked, fits}
+use Rattle.layout.specs.Layout.{packed, unpacked, fits, stateWords}
 use Rattle.run.specs.Said.{world}
 use Rattle.plumbsorrel.specs.Number.{takenNumber}
 
@@ -44,12 +44,12 @@ abbrev pub crossed : List ℕ → List ℕ → List ℕ → Reply → (World →
 crossed state common private lent offer =
     left state common private (firstly (lent then unknown state) (offer (world (unpacked state) common private)))
 
--- 6: n is word 818 where there are 820 words, else there is no n
+-- 6: n is word 818 where there are as many words as a state has, else there is no n
 abbrev pub lentStores : List ℕ → List ℕ → Reply
 lentStores common private = refuse 6 (not (storesFit common private))
 
 abbrev pub codeFits : List ℕ → List ℕ → Bool
-codeFits code state = if (eqb (length state) 820) (eqb (length code) (getD state 818 0)) true
+codeFits code state = if (eqb (length state) stateWords) (eqb (length code) (getD state 818 0)) true
 
 abbrev pub lentCode : List ℕ → List ℕ → List ℕ → List ℕ → Reply
 lentCode code common private state = refuse 6 (not (storesFit common private && codeFits code state))

@@ -22,12 +22,12 @@ pub extern "C" fn plumbsorrel_load(
     let Reading::Accepted(header) = reading else {
         return number::of_reading(reading);
     };
-    let room = image::check_room(state.len(), 820);
+    let room = image::check_room(state.len(), layout::WORDS);
     let Check::Passed = room else {
         return number::of_check(room);
     };
     let m = run::set_up(image, header, code, common, private);
-    layout::pack(m, &mut state[..820]);
+    layout::pack(m, &mut state[..layout::WORDS]);
     number::of_reading(reading)
 }
 

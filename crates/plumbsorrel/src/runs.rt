@@ -21,11 +21,11 @@ fn wide(x: u16) -> usize
     x as usize
 }
 
-// The code is n words: n is word 818 where there are 820 words, else there is no n.
+// The code is n words: n is word 818 where there are as many words as a state has, else there is no n.
 fn code_fits(code: usize, state: &[u16]) -> bool
     ensures { λ r. ⌜ ((c : List ℕ) → length c ≡ code → r ≡ codeFits c (now (state .entry))) ⌝ }
 {
-    if state.len() != 820 {
+    if state.len() != layout::WORDS {
         return true;
     }
     let n = wide(state[818]);

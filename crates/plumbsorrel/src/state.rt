@@ -7,7 +7,7 @@ ghost use Rattle.notation.specs.If.{if};
 ghost use Rattle.word.specs.Word.{bit};
 ghost use Rattle.image.specs.Refusal.{checkSays};
 ghost use Rattle.image.specs.Read.{refuse};
-ghost use Rattle.layout.specs.Layout.{packed};
+ghost use Rattle.layout.specs.Layout.{packed, stateWords};
 ghost use Rattle.run.specs.Said.{answerOf};
 ghost use Rattle.plumbsorrel.specs.Number.{answerNumber};
 ghost use Rattle.plumbsorrel.specs.Offers.{wordsSound};
@@ -29,7 +29,7 @@ pub(crate) fn check_known(known: bool) -> Check
 
 // The new machine's words are put back; the answer's number.
 pub(crate) fn put_back(x: Offered, state: &mut [u16]) -> u64
-    ensures { λ r. ⌜ (r ≡ answerNumber (answerOf (x .reply)) (x .count)) × (now (state .exit) ≡ if (eqb (length (now (state .entry))) 820) (packed (x .machine)) (now (state .entry))) ⌝ }
+    ensures { λ r. ⌜ (r ≡ answerNumber (answerOf (x .reply)) (x .count)) × (now (state .exit) ≡ if (eqb (length (now (state .entry))) stateWords) (packed (x .machine)) (now (state .entry))) ⌝ }
 {
     let m = x.machine;
     let reply = x.reply;

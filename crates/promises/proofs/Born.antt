@@ -90,6 +90,7 @@ one-born {m} address v b code small f =
             tens = number .tens;
             seconds = number .seconds;
             stop = number .stop;
+            low = number .low;
           };
       processes =
           record {
@@ -118,6 +119,7 @@ one-born {m} address v b code small f =
       devices = record { five = f .devices .five; known = λ d i. known-more (f .devices .known d i); busy = f .devices .busy };
       runs = known-more (f .runs);
       hand = known-one (omega arith) (omega arith);
+      unmarked = f .unmarked;
       each = λ q c.
           let y =
           at-set (λ o. sits q (m .running) + isReady m q + waits m q + bit (o .ended) + sits q n ≡ 1) ps n p noProcess q l

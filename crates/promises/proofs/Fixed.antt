@@ -11,8 +11,8 @@ use Rattle.notation.specs.If.{if}
 use Rattle.notation.proofs.Upto.{split, below?}
 use Rattle.machine.specs.declared.Process.{Process}
 use Rattle.machine.specs.declared.Machine.{Machine}
-use Rattle.machine.specs.State.{nobody, noProcess, proc, gate, timed, withProcess}
-use Rattle.machine.specs.Classes.{setRunning, push, pull, wake, setClass, best, start, selects, select}
+use Rattle.machine.specs.State.{nobody, noProcess, proc, gate, timed, counted, withProcess}
+use Rattle.machine.specs.Classes.{setRunning, push, pull, wake, setClass, best, start, source, selection, aside, selects, select}
 use Rattle.machine.specs.Gate.{entered, given, join, advance, sit, grant, giveUp, pass, handOn, enter, leave, delay, cell, continue, makeGate}
 use Rattle.machine.specs.Clock.{clockWait, bellWait, clockOne, clockWake, bellOne, bellWake, nextSecond, timePasses, yields, slicePasses, tick, bell}
 use Rattle.machine.specs.Device.{withDevice, deviceStart, deviceEnd}
@@ -74,13 +74,21 @@ fixed-start : (m : Machine) (c : ℕ) → Fixed m (start m c)
 unfolding start setRunning pull
 fixed-start m c = record { stop = refl; length = refl; created = refl; regs = λ q. refl }
 
+fixed-aside : (m : Machine) → Fixed m (aside m)
+unfolding aside
+fixed-aside m = either (leb nobody (m .running)) unchanged (also (fixed-running m nobody) (fixed-wake (setRunning m nobody) (m .running)))
+
+fixed-counted : (m : Machine) (count : ℕ) (mark : Bool) → Fixed m (counted m count mark)
+fixed-counted m count mark = record { stop = refl; length = refl; created = refl; regs = λ q. refl }
+
+fixed-selection : (m : Machine) → Fixed m (selection m)
+unfolding selection
+fixed-selection m = also (fixed-start m (source m)) (fixed-counted _ _ _)
+
 pub fixed-select : (m : Machine) → Fixed m (select m)
 unfolding select
 fixed-select m =
-    either (selects m)
-    (either (leb nobody (m .running)) (fixed-start m (best m))
-    (also (also (fixed-running m nobody) (fixed-wake (setRunning m nobody) (m .running))) (fixed-start _ (best m))))
-    unchanged
+    either (selects m) (also (fixed-aside m) (fixed-selection _)) unchanged
 
 -- ---- gates
 entered-regs : (p : Process) (g : ℕ) → (entered p g) .regs ≡ p .regs
@@ -181,7 +189,7 @@ fixed-yields m h = either (leb (best m) ((proc m h) .class)) (also (fixed-runnin
 fixed-slice : (m : Machine) (h : ℕ) → Fixed m (slicePasses m h)
 unfolding slicePasses
 fixed-slice m h =
-    either (leb 200 ((proc m h) .slice + 10)) (also (with-process m h _ refl) (fixed-yields _ h)) (with-process m h _ refl)
+    either (leb 200 ((proc m h) .slice + 10)) (also (also (fixed-counted m _ _) (with-process _ h _ refl)) (fixed-yields _ h)) (with-process m h _ refl)
 
 pub fixed-tick : (m : Machine) → Fixed m (tick m)
 unfolding tick

@@ -1,6 +1,6 @@
 -- What a change of some parts has to keep, for the state to stay nearly sound
 use mathlib.Core.Path.{_≡_, refl, sym, _∙_, ap}
-use mathlib.Core.Bool.{true}
+use mathlib.Core.Bool.{Bool, true, false}
 use mathlib.Core.List.{List}
 use Prim.Native.Nat.{ℕ, _+_, _%_, _<_, _≤_}
 use native.Mathlib.Omega.{arith}
@@ -15,7 +15,7 @@ use Rattle.machine.specs.declared.Gate.{Gate}
 use Rattle.machine.specs.declared.Process.{Process}
 use Rattle.machine.specs.declared.Device.{Device}
 use Rattle.machine.specs.declared.Machine.{Machine}
-use Rattle.machine.specs.State.{nobody, noGate, noProcess, proc, gate, ready, parts, timed, with}
+use Rattle.machine.specs.State.{nobody, noGate, noProcess, proc, gate, ready, parts, timed, counted, with}
 use Rattle.machine.specs.Sound.{sits, inQueue, atGate, isReady, places, heldOf, isAtGates}
 use Rattle.promises.proofs.Steady.{Steady}
 use Rattle.promises.proofs.Counts.{at-set, all-set, Lined, lined-as, sits-other, sum-set}
@@ -31,12 +31,13 @@ pub seated : {m : Machine} {h x : ℕ} (k : ℕ) {qs : List Queue} {clock bell :
     → Lined (λ q. q < m .created) bell
     → Devices (m .created) (m .present) ds
     → Known (m .created) i
+    → (nobody ≤ i → m .mark ≡ false)
     → Known (m .created) k
     → ((q : ℕ) → q < m .created → places (seats m qs clock bell ds i) q + sits q k ≡ places m q + sits q h)
     → ((q : ℕ) → q < m .created → (proc m q) .regs .«in_job» ≡ true → waits (seats m qs clock bell ds i) q ≤ waits m q)
     → Nearly (seats m qs clock bell ds i) k x
 unfolding isAtGates
-seated k f qs clock bell ds i hand p j =
+seated k f qs clock bell ds i mark hand p j =
     record {
       numbers = f .numbers;
       processes = f .processes;
@@ -47,6 +48,7 @@ seated k f qs clock bell ds i hand p j =
       devices = ds;
       runs = i;
       hand = hand;
+      unmarked = mark;
       each = λ q l. p q l ∙ f .each q l;
       jobs = λ q l t. let a = j q l t in let b = f .jobs q l t in omega arith;
       seven = f .seven;
@@ -92,6 +94,7 @@ queued {m} {h} {x} k g w f b o e s hand p free room =
       devices = f .devices;
       runs = f .runs;
       hand = hand;
+      unmarked = f .unmarked;
       each = λ q l. let a = sum q in let i = p q l in let y = f .each q l in omega arith;
       jobs = λ q l t.
           let a = sum q in
@@ -151,6 +154,7 @@ rebuilt {m} {h} k z p v gs f b held ok gates same hand there others class job se
       devices = f .devices;
       runs = f .runs;
       hand = hand;
+      unmarked = f .unmarked;
       each = λ q c.
           let y = f .each q c in
           let s = sum q in
@@ -199,6 +203,7 @@ renumbered z made stop line seconds fraction few part tens second number gates f
             tens = tens;
             seconds = second;
             stop = number;
+            low = n .low;
           };
       processes = f .processes;
       gates = gates;
@@ -208,6 +213,7 @@ renumbered z made stop line seconds fraction few part tens second number gates f
       devices = f .devices;
       runs = f .runs;
       hand = f .hand;
+      unmarked = f .unmarked;
       each = f .each;
       jobs = f .jobs;
       seven = f .seven;
@@ -218,6 +224,40 @@ pub retimed : {m : Machine} {h x : ℕ} (stop line seconds fraction : ℕ) → f
     → Nearly m h x → Nearly (timed m stop line seconds fraction) h x
 retimed {m} {x = x} stop line seconds fraction part tens second number f =
     renumbered x (m .made) stop line seconds fraction (f .numbers .fewGates) part tens second number (f .gates) f
+
+-- another count and mark
+pub recounted : {m : Machine} {h x : ℕ} (count : ℕ) (mark : Bool) → count ≤ 8 → (nobody ≤ m .running → mark ≡ false)
+    → Nearly m h x → Nearly (counted m count mark) h x
+unfolding places isReady isAtGates waits
+recounted count mark low unmarked f =
+    let n = f .numbers in
+    record {
+      numbers =
+          record {
+            some = n .some;
+            few = n .few;
+            fewGates = n .fewGates;
+            header = n .header;
+            fraction = n .fraction;
+            tens = n .tens;
+            seconds = n .seconds;
+            stop = n .stop;
+            low = low;
+          };
+      processes = f .processes;
+      gates = f .gates;
+      classes = f .classes;
+      clock = f .clock;
+      bell = f .bell;
+      devices = f .devices;
+      runs = f .runs;
+      hand = f .hand;
+      unmarked = unmarked;
+      each = f .each;
+      jobs = f .jobs;
+      seven = f .seven;
+      agree = f .agree;
+    }
 
 -- one gate more is made, open
 pub one-made : {m : Machine} {h x : ℕ} → m .made < 25 → Nearly m h x → Nearly (withMade m (m .made + 1)) h x

@@ -78,6 +78,7 @@ module _ (h : Header) (ok : goodHeader h ≡ true) where
                     tens = refl;
                     seconds = omega arith;
                     stop = omega arith;
+                    low = omega arith;
                   };
               processes =
                   record {
@@ -105,6 +106,7 @@ module _ (h : Header) (ok : goodHeader h ≡ true) where
                   };
               runs = known-one (omega arith) (omega arith);
               hand = known-nobody 1;
+              unmarked = λ n. refl;
               each = only-zero (λ q. places m q + sits q nobody ≡ 1) placed-zero;
               jobs = only-zero (λ q. (proc m q) .regs .«in_job» ≡ true → waits m q + bit ((proc m q) .ended) ≡ 0) (λ t. never (sym t));
               seven = only-zero (λ q. 0 < isAtGates m q → (proc m q) .holds ≤ 7) (λ t. omega arith);

@@ -15,7 +15,7 @@ use Rattle.machine.specs.declared.Gate.{Gate}
 use Rattle.machine.specs.declared.Process.{Process}
 use Rattle.machine.specs.declared.Device.{Device}
 use Rattle.machine.specs.declared.Machine.{Machine}
-use Rattle.machine.specs.State.{nobody, noQueue, noGate, noDevice, proc, gate, ready, device, with, withWaits, withProcess}
+use Rattle.machine.specs.State.{nobody, noQueue, noGate, noDevice, proc, gate, ready, device, with, counted, withWaits, withProcess}
 use Rattle.machine.specs.Queue.{first, pushed, rest}
 use Rattle.machine.specs.Classes.{setRunning, push, pull, wake}
 use Rattle.machine.specs.Gate.{latest, entered, given, join, advance, sit, grant, giveUp}
@@ -24,7 +24,7 @@ use Rattle.machine.specs.Sound.{sits, inQueue, inCells, atGate, isReady, places
 use Rattle.promises.proofs.Counts.{at-set, all-set, Lined, lined-as, pushed-lined, rest-lined, in-pushed, in-rest, has-room, held-holding, held-dropping, sits-self, sits-other, sum-get, sum-set}
 use Rattle.promises.proofs.Steady.{Steady, ended, steady-holding, steady-dropping, steady-ended}
 use Rattle.promises.proofs.Nearly.{Known, Tended, Unused, Gates, InClass, works, waits, Nearly, known-nobody, known-one, nobody-sits, Alone, in-hand, in-ready, at-gate, no-gate, Free, not-free}
-use Rattle.promises.proofs.Frames.{seated, queued, rebuilt}
+use Rattle.promises.proofs.Frames.{seated, queued, rebuilt, recounted}
 
 -- nobody in hand
 pub empty-hand : {m : Machine} {h x : ℕ} → nobody ≤ h → Nearly m h x → Nearly m nobody x
@@ -33,18 +33,22 @@ empty-hand {m} {h} {x} b f =
     rw e at f
 
 -- ---- running and ready
+-- no mark
+pub unmark : {m : Machine} {h x : ℕ} → Nearly m h x → Nearly (counted m (m .count) false) h x
+unmark {m} f = recounted (m .count) false (f .numbers .low) (λ n. refl) f
+
 -- the running process is taken off; the one in hand runs
 pub take-running : {m : Machine} {x : ℕ} → Nearly m nobody x → Nearly (setRunning m nobody) (m .running) x
 unfolding setRunning places isReady waits isAtGates
 take-running {m} f =
-    seated (m .running) f (f .classes) (f .clock) (f .bell) (f .devices) (known-nobody _) (f .runs)
+    seated (m .running) (unmark f) (f .classes) (f .clock) (f .bell) (f .devices) (known-nobody _) (λ n. refl) (f .runs)
     (λ q l. omega arith) (λ q l j. omega arith)
 
 pub put-running : {m : Machine} {h x : ℕ} → nobody ≤ m .running → Nearly m h x → Nearly (setRunning m h) nobody x
 unfolding setRunning places isReady waits isAtGates
 put-running {m} {h} e f =
     let r : m .running ≡ nobody = omega (arith, f .runs .most) in
-    seated nobody f (f .classes) (f .clock) (f .bell) (f .devices) (f .hand) (known-nobody _)
+    seated nobody (unmark f) (f .classes) (f .clock) (f .bell) (f .devices) (f .hand) (λ n. refl) (known-nobody _)
     (λ q l. rw r (omega arith)) (λ q l j. omega arith)
 
 -- class c has another queue
@@ -61,7 +65,7 @@ reclassed {m} h k c w f d t hand p =
       three = length-set (m .ready) c w ∙ three;
       each = all-set (λ j z. Lined (InClass (m .created) (m .processes) j) z) (m .ready) c w noQueue 3 three d t (f .classes .each);
     })
-    (f .clock) (f .bell) (f .devices) (f .runs) hand
+    (f .clock) (f .bell) (f .devices) (f .runs) (f .unmarked) hand
     (λ q l. let a = sum-set (inQueue q) (m .ready) noQueue 3 c w d (omega arith) in let i = p q l in omega arith)
     (λ q l j. omega arith)
 
@@ -114,11 +118,11 @@ relined : {m : Machine} {h x : ℕ} (b : Bool) (k : ℕ) (w : Queue) → Nearly 
     → Nearly (withLine b m w) k x
 unfolding places isReady waits isAtGates
 relined {m} {h} true k w f t hand free p =
-    seated k f (f .classes) t (f .bell) (f .devices) (f .runs) hand
+    seated k f (f .classes) t (f .bell) (f .devices) (f .runs) (f .unmarked) hand
     (λ q l. let i = p q l in omega arith)
     (λ q l j. let i = p q l in let z = not-free m q h free (omega (arith, f .numbers .few)) j in omega arith)
 relined {m} {h} false k w f t hand free p =
-    seated k f (f .classes) (f .clock) t (f .devices) (f .runs) hand
+    seated k f (f .classes) (f .clock) t (f .devices) (f .runs) (f .unmarked) hand
     (λ q l. let i = p q l in omega arith)
     (λ q l j. let i = p q l in let z = not-free m q h free (omega (arith, f .numbers .few)) j in omega arith)
 
@@ -159,7 +163,7 @@ put-device {m} {h} d operation address b free ok f =
       known = all-set (λ j z. Known (m .created) (z .process)) ds d v noDevice 5 five b (f .hand) (f .devices .known);
       busy = all-set (λ j z. z .process < nobody → works (m .present) j z ≡ true) ds d v noDevice 5 five b ok (f .devices .busy);
     })
-    (f .runs) (f .devices .known d b)
+    (f .runs) (f .unmarked) (f .devices .known d b)
     (λ q l. let s = sum q in omega arith)
     (λ q l j. let s = sum q in let z = not-free m q h free (omega (arith, f .numbers .few)) j in omega arith)
 

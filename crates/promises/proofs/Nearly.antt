@@ -68,7 +68,7 @@ pub record Devices (created present : ℕ) (ds : List Device) : Type 0 where
   pub known : (d : ℕ) → d < 5 → Known created ((getD ds d noDevice) .process)
   pub busy : (d : ℕ) → d < 5 → (getD ds d noDevice) .process < nobody → works present d (getD ds d noDevice) ≡ true
 
-pub record Numbers (edition n present part second number created made : ℕ) : Type 0 where
+pub record Numbers (edition n present part second number created made count : ℕ) : Type 0 where
   pub some : 1 ≤ created
   pub few : created ≤ 10
   pub fewGates : made ≤ 25
@@ -77,13 +77,14 @@ pub record Numbers (edition n present part second number created made : ℕ) : T
   pub tens : part % 10 ≡ 0
   pub seconds : second ≤ 32767
   pub stop : number ≤ 10
+  pub low : count ≤ 8
 
 -- ---- the places of a process but running, ready and ended
 unfoldable pub waits : Machine → ℕ → ℕ
 waits m q = isAtGates m q + inQueue q (m .clock) + inQueue q (m .bell) + sumTo (λ d. sits q ((device m d) .process)) 5
 
 pub record Nearly (m : Machine) (h x : ℕ) : Type 0 where
-  pub numbers : Numbers (m .edition) (m .length) (m .present) (m .fraction) (m .seconds) (m .stop) (m .created) (m .made)
+  pub numbers : Numbers (m .edition) (m .length) (m .present) (m .fraction) (m .seconds) (m .stop) (m .created) (m .made) (m .count)
   pub processes : Processes (m .length) (m .created) (m .processes)
   pub gates : Gates (m .created) (m .made) x (m .gates)
   pub classes : Classes (m .created) (m .processes) (m .ready)
@@ -92,6 +93,8 @@ pub record Nearly (m : Machine) (h x : ℕ) : Type 0 where
   pub devices : Devices (m .created) (m .present) (m .devices)
   pub runs : Known (m .created) (m .running)
   pub hand : Known (m .created) h
+  -- a mark only while somebody runs
+  pub unmarked : nobody ≤ m .running → m .mark ≡ false
   -- each created process is in exactly one place
   pub each : (q : ℕ) → q < m .created → places m q + sits q h ≡ 1
   -- jobs run, are ready or are in hand

@@ -17,7 +17,7 @@ use Rattle.machine.specs.Store.{World, Place, inCommon, inOwn, nowhere, placeOf
 use Rattle.machine.specs.Classes.{setRunning, wake, someReady}
 use Rattle.machine.specs.Gate.{enter, leave, delay, continue, mayEnter, mayLeave, mayDelay, mayContinue}
 use Rattle.machine.specs.Device.{isPresent, isBusy}
-use Rattle.machine.specs.Call.{Called, on, starts, stops, caller, floor, stackWord, hasWords, hasRoom, passed, popped, same, withTop, born, placeChild, createProcess, newPart, stopAnswer, stopJob, reports, onGate, onCell, ioBegins, call0, call1, call2, call3, call4, call5, call6, call7, call8, call9, call10, call11, kernel}
+use Rattle.machine.specs.Call.{Called, on, starts, stops, caller, floor, stackWord, hasWords, hasRoom, passed, popped, same, withTop, born, createProcess, newPart, stopAnswer, stopJob, reports, onGate, onCell, ioBegins, call0, call1, call2, call3, call4, call5, call6, call7, call8, call9, call10, call11, kernel}
 use Rattle.promises.proofs.Fixed.{Fixed, unchanged, also, fixed-running, fixed-wake, fixed-enter, fixed-leave, fixed-delay, fixed-continue, fixed-make, fixed-clock-wait, fixed-bell-wait, fixed-device-start, fixed-finish}
 
 -- ---- of the machine: a process that does not run keeps its registers, where a stop is pending
@@ -76,7 +76,7 @@ spared-stop m m′ h reason s =
     (λ t. rw t s)
 
 spared-create : (m m′ : Machine) (t v : ℕ) → Spared m m′ → m′ .created ≡ m .created → Spared m (createProcess m′ t v)
-unfolding createProcess placeChild born
+unfolding createProcess born
 spared-create m m′ t v s e =
     let u : Machine = wake (setRunning m′ nobody) (m′ .running) in
     let f : Fixed m′ u = also (fixed-running m′ nobody) (fixed-wake _ (m′ .running)) in
@@ -89,8 +89,7 @@ spared-create m m′ t v s e =
       regs = λ q l n r.
           ap (λ (x : Process). x .regs) (getD-set-other (u .processes) (u .created) q _ noProcess (λ z. omega arith)) ∙ f .regs q ∙ s .regs q l n r;
     } in
-    split (someReady (born u t v) 0 || someReady (born u t v) 1)
-    (λ a. rw a (by-fixed b (fixed-wake _ _))) (λ a. rw a (by-fixed b (fixed-running _ _)))
+    by-fixed b (fixed-wake _ _)
 
 -- ---- of the world: the lengths of both stores too
 pub record Kept (w v : World) : Type 0 where

@@ -1,5 +1,5 @@
 -- The test of a sound state says yes exactly where, with arrays of their lengths, every process has its place
-use mathlib.Core.Path.{_≡_, refl}
+use mathlib.Core.Path.{_≡_, refl, sym}
 use mathlib.Core.Bool.{Bool, true, false, _&&_, _||_, not, and-false, or-true}
 use Prim.Native.Nat.{ℕ, _+_, _%_, _<_, _≤_}
 use native.Mathlib.Omega.{arith}
@@ -8,7 +8,7 @@ use lib.ListN.{length, getD}
 use borrow.Author.Tests.{ltb-true, ltb-false, leb-true, leb-false, eqb-true, eqb-false, lt-ltb, le-ltb, le-leb, lt-leb, eq-eqb, ne-eqb, not-false}
 use Rattle.notation.specs.If.{if}
 use Rattle.notation.specs.Upto.{allTo}
-use Rattle.notation.proofs.Upto.{split, all-at, all-of}
+use Rattle.notation.proofs.Upto.{split, never, all-at, all-of}
 use Rattle.word.specs.Word.{bit}
 use Rattle.image.specs.Header.{goodHeader}
 use Rattle.machine.specs.declared.Queue.{Queue}
@@ -29,6 +29,10 @@ use Rattle.promises.proofs.Nearly.{Known, Tended, Unused, InClass, work
 or-else : (a b : Bool) → (a ≡ false → b ≡ true) → a || b ≡ true
 or-else true b f = refl
 or-else false b f = f refl
+
+not-true : (b : Bool) → not b ≡ true → b ≡ false
+not-true true e = never (sym e)
+not-true false e = refl
 
 -- each of n tests, of a whole that would fail without them
 each-of : {whole : Bool} (ok : ℕ → Bool) (n : ℕ) → whole ≡ true → (allTo ok n ≡ false → whole ≡ false) → (k : ℕ) → k < n → ok k ≡ true
@@ -294,7 +298,8 @@ of-device m d y =
 
 -- ---- the numbers, and who runs
 record NumbersYes (m : Machine) : Type 0 where
-  numbers : Numbers (m .edition) (m .length) (m .present) (m .fraction) (m .seconds) (m .stop) (m .created) (m .made)
+  numbers : Numbers (m .edition) (m .length) (m .present) (m .fraction) (m .seconds) (m .stop) (m .created) (m .made) (m .count)
+  unmarked : nobody ≤ m .running → m .mark ≡ false
   runs : Known (m .created) (m .running)
   idle : nobody ≤ m .running → (c : ℕ) → c < 3 → (ready m c) .len ≡ 0
 
@@ -311,6 +316,7 @@ module _ (m : Machine) where
       let few = at-most (m .created) 10 e (λ t. simp (t, and-false)) in
       let stop = part (eqb (m .stop) going || leb (m .stop) 9) e (λ t. simp (t, and-false)) in
       let idle = part (ltb (m .running) nobody || allTo empty 3) e (λ t. simp (t, and-false)) in
+      let mark = part (ltb (m .running) nobody || not (m .mark)) e (λ t. simp (t, and-false)) in
       record {
         numbers =
             record {
@@ -325,7 +331,9 @@ module _ (m : Machine) where
                   split (eqb (m .stop) going)
                   (λ t. let z = eqb-true (m .stop) going t in omega arith)
                   (λ t. let z = leb-true (m .stop) 9 (second (eqb (m .stop) going) _ stop t) in omega arith);
+              low = at-most (m .count) 8 e (λ t. simp (t, and-false));
             };
+        unmarked = λ n. let z = second (ltb (m .running) nobody) _ mark (le-ltb (m .running) nobody n) in not-true (m .mark) z;
         runs = known-of few (part (someone m (m .running)) e (λ t. simp (t, and-false)));
         idle = λ n c l. eqb-true _ 0 (all-at empty 3 c (second (ltb (m .running) nobody) _ idle (le-ltb (m .running) nobody n)) l);
       }
@@ -340,6 +348,7 @@ module _ (m : Machine) where
       let idle =
       or-else (ltb (m .running) nobody) (allTo empty 3)
       (λ t. all-of empty 3 (λ c l. eq-eqb _ 0 (y .idle (ltb-false (m .running) nobody t) c l))) in
+      let mark = or-else (ltb (m .running) nobody) (not (m .mark)) (λ t. rw (y .unmarked (ltb-false (m .running) nobody t))) in
       rw (
         le-leb 1 _ (n .some),
         le-leb _ 10 (n .few),
@@ -351,6 +360,8 @@ module _ (m : Machine) where
         stop,
         of-known (y .runs),
         idle,
+        le-leb _ 8 (n .low),
+        mark,
       )
 
   -- ---- the whole
@@ -391,6 +402,7 @@ module _ (m : Machine) where
               devices = record { five = sh .devices; known = λ d b. devices d b .known; busy = λ d b. devices d b .busy };
               runs = n .runs;
               hand = known-nobody (m .created);
+              unmarked = n .unmarked;
               each = λ q b. let p = processes q b .place in omega (arith, sits-other q nobody (λ e. omega arith));
               jobs = λ q b t. let p = processes q b .place in let j = processes q b .job t in omega arith;
               seven = λ q b. processes q b .seven;
@@ -415,7 +427,7 @@ module _ (m : Machine) where
         agree = λ g. f .agree q g b;
       } in
       rw (
-        of-numbers (record { numbers = f .numbers; runs = f .runs; idle = s .idle }),
+        of-numbers (record { numbers = f .numbers; unmarked = f .unmarked; runs = f .runs; idle = s .idle }),
         all-of (classOk m) 3 (λ c b. of-class m c (f .classes .each c b)),
         of-lined m (m .clock) (f .clock),
         of-lined m (m .bell) (f .bell),

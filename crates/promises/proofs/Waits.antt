@@ -15,10 +15,10 @@ use Rattle.machine.specs.Queue.{first, rest}
 use Rattle.machine.specs.Classes.{setRunning, push, wake, setClass, someReady, best}
 use Rattle.machine.specs.Clock.{clockWait, bellWait, clockOne, clockWake, bellOne, bellWake, nextSecond, timePasses, fallen, sliced, yields, slicePasses, tick, bell}
 use Rattle.machine.specs.Device.{withDevice, deviceStart, deviceEnd}
-use Rattle.machine.specs.Call.{born, placeChild, createProcess, finish}
+use Rattle.machine.specs.Call.{born, createProcess, finish}
 use Rattle.promises.proofs.Steady.{Steady, steady-sliced}
 use Rattle.promises.proofs.Nearly.{works, Nearly, Placed, Sound, Alone, in-hand, in-run}
-use Rattle.promises.proofs.Moves.{empty-hand, take-running, put-running, put-ready, line, withLine, lined, put-line, take-line, seat, put-device, remade, finished}
+use Rattle.promises.proofs.Moves.{empty-hand, unmark, take-running, put-running, put-ready, line, withLine, lined, put-line, take-line, seat, put-device, remade, finished}
 use Rattle.promises.proofs.Frames.{retimed}
 use Rattle.promises.proofs.Born.{one-born}
 use Rattle.promises.proofs.Selected.{select-sound}
@@ -139,11 +139,11 @@ slice-kept {m} b f =
     split (leb 200 (p .slice + 10))
     (λ t. rw t
     (yields-kept b
-    (resliced r 0 (fallen (p .class)) o
+    (resliced r 0 (fallen (p .class)) (in-run (unmark f) b)
     (steady-sliced s 0 (fallen (p .class)) (omega arith) refl
     (λ l. rw (ne-eqb (p .class) 1 (λ u. omega (arith, s .zero l))) (s .zero l))
     (λ e. split (eqb (p .class) 1) (λ u. rw u (omega arith)) (λ u. rw u (s .some e)))
-    (split (eqb (p .class) 1) (λ u. rw u (omega arith)) (λ u. rw u (s .two)))) f)))
+    (split (eqb (p .class) 1) (λ u. rw u (omega arith)) (λ u. rw u (s .two)))) (unmark f))))
     (λ t.
     let l = leb-false 200 (p .slice + 10) t in
     let tens = s .marks .tens in
@@ -162,12 +162,8 @@ tick-sound {m} f =
     rw t (select-sound (subst (λ h. Placed (slicePasses (timePasses m) h)) e (slice-kept b (time-kept f)))))
 
 -- ---- a new process: the parent goes to the tail of its class
-child-kept : {m : Machine} (h : ℕ) → h < nobody → nobody ≤ m .running → Nearly m h 25 → Placed (placeChild m h)
-unfolding placeChild
-child-kept {m} h b n f = split (someReady m 0 || someReady m 1) (λ t. rw t (put-ready b f)) (λ t. rw t (put-running n f))
-
 pub create-kept : {m : Machine} (address v : ℕ) → m .running < nobody → m .created < nobody → address ≤ m .length → v ≤ 1024
     → Placed m → Placed (createProcess m address v)
 unfolding createProcess setRunning wake push born
 create-kept {m} address v b c code small f =
-    child-kept (m .created) c (omega arith) (one-born address v c code small (put-ready b (take-running f)))
+    put-ready c (one-born address v c code small (put-ready b (take-running f)))

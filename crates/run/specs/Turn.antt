@@ -1,10 +1,11 @@
 -- A turn: a burst of the running process, and what follows it
 use mathlib.Core.List.{List}
 use Prim.Native.Nat.{ℕ, _+_}
+use lib.Dec.{ltb}
 use Rattle.notation.specs.If.{if}
 use Rattle.machine.specs.declared.Regs.{Regs}
 use Rattle.machine.specs.declared.Machine.{Machine}
-use Rattle.machine.specs.State.{proc, withProcess, withRegs}
+use Rattle.machine.specs.State.{nobody, proc, withProcess, withRegs}
 use Rattle.machine.specs.Store.{World, withPart}
 use Rattle.machine.specs.Classes.{selects}
 use Rattle.machine.specs.Call.{kernel}
@@ -35,6 +36,11 @@ turned w x = follows (x .ending) (put w (x .regs) (x .common) (x .own)) (x .coun
 unfoldable pub turn : List ℕ → ℕ → World → Stepped
 turn code quota w = turned w (bursts quota (view code w))
 
--- a better class that is ready when the turn begins displaces the process after one instruction; and none becomes so without the kernel
+-- a better class that is ready when the turn begins displaces the process after one instruction, unless it has the mark; and none becomes so
+-- without the kernel
 abbrev pub quotaOf : Machine → ℕ → ℕ
 quotaOf m budget = if (selects m) 1 budget
+
+-- what a ready class is compared with: the class of who runs, and 3 where nobody does
+abbrev pub overClass : Machine → ℕ
+overClass m = if (ltb (m .running) nobody) ((proc m (m .running)) .class) 3

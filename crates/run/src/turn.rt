@@ -12,7 +12,7 @@ ghost use Rattle.machine.specs.Run.{run};
 ghost use Rattle.engine.specs.Burst.{endSays};
 ghost use Rattle.kernel.specs.declared.answer.Act.the-variants.{Stop};
 ghost use Rattle.kernel.specs.Did.{Decides, endOf as endOfAct};
-ghost use Rattle.run.specs.Turn.{quotaOf};
+ghost use Rattle.run.specs.Turn.{quotaOf, overClass};
 ghost use Rattle.run.specs.Said.{world, endOf};
 ghost use Rattle.run.specs.Ran.{ran, isOnward, isStopped, Accepted, Going, movedCaller, BurstOf, Small, counted, Countable, following, TurnOf};
 use crate::answer::Ended;
@@ -43,11 +43,12 @@ fn with_regs(mut who: Caller, r: Regs) -> Caller
     who
 }
 
-// Where a better class is ready when the turn begins, it is one instruction long.
-fn quota_of(ready: [Queue; 3], class: u8, budget: u32) -> u32
-    ensures { λ r. ⌜ ((m : Machine) → m .ready ≡ ready → m .running < 10 → (proc m (m .running)) .class ≡ class → r ≡ quotaOf m budget) ⌝ }
+// Where a better class is ready when the turn begins, it is one instruction long, unless a mark holds the process.
+fn quota_of(ready: [Queue; 3], class: u8, mark: bool, budget: u32) -> u32
+    ensures { λ r. ⌜ ((m : Machine) → m .ready ≡ ready → m .running < 10 → (proc m (m .running)) .class ≡ class → m .mark ≡ mark → r ≡ quotaOf m budget) ⌝ }
 {
-    let one = machine::is_better_ready(ready, class);
+    let better = machine::is_better_ready(ready, class);
+    let one = better & !mark;
     if one { 1 } else { budget }
 }
 
@@ -197,12 +198,12 @@ fn is_stopped(e: Ended) -> bool
 }
 
 // Whether the selection changes the machine: it follows each turn that does not stop.
-fn displaces(ended: Ended, ready: [Queue; 3], class: u8) -> bool
-    ensures { λ r. ⌜ ((m : Machine) → m .ready ≡ ready → class ≡ if (ltb (m .running) 10) ((proc m (m .running)) .class) 3 → r ≡ (not (isStopped (endOf ended)) && selects m)) ⌝ }
+fn displaces(ended: Ended, ready: [Queue; 3], class: u8, marked: bool) -> bool
+    ensures { λ r. ⌜ ((m : Machine) → m .ready ≡ ready → class ≡ overClass m → marked ≡ (ltb (m .running) 10 && m .mark) → r ≡ (not (isStopped (endOf ended)) && selects m)) ⌝ }
 {
     let stopped = is_stopped(ended);
     let better = machine::is_better_ready(ready, class);
-    !stopped & better
+    !stopped & (better & !marked)
 }
 
 fn so_far(machine: Machine, ended: Ended, count: u32) -> Ran
@@ -244,7 +245,7 @@ pub(crate) fn turns(
             present: m.present,
             devices: m.devices,
         };
-        let quota = quota_of(m.ready, process.class, budget - count);
+        let quota = quota_of(m.ready, process.class, m.mark, budget - count);
         let x = turn(who, quota, m.processes, m.gates, code, common, private);
         let d = x.decision;
         let after = d.process;
@@ -259,7 +260,8 @@ pub(crate) fn turns(
             let next = m.processes[j as usize];
             class = next.class;
         }
-        let displaced = displaces(ended, m.ready, class);
+        let marked = (j < Machine::NOBODY) & m.mark;
+        let displaced = displaces(ended, m.ready, class, marked);
         if displaced {
             m = m.select();
         }

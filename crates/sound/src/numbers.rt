@@ -24,4 +24,6 @@ pub(crate) fn are_ok(m: Machine) -> bool
         & ((m.stop == Machine::GOING) | (m.stop <= 9))
         & ((m.running == Machine::NOBODY) | (m.running < m.created))
         & ((m.running < Machine::NOBODY) | empty)
+        & (m.count <= Machine::MOST_COUNT)
+        & ((m.running < Machine::NOBODY) | !m.mark)
 }

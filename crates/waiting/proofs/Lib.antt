@@ -9,5 +9,11 @@ pub mod Steps
 pub mod Waiting
 pub mod Selection
 pub mod Ready
+pub mod Taken
+pub mod Room
 pub mod Running
+pub mod InTime
 pub mod Sharp
+pub mod SharpClasses
+pub mod Mark
+pub mod Traps

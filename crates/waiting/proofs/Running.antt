@@ -1,177 +1,171 @@
--- Each selection takes the first of class 0, if there is one, and the others move up
-use mathlib.Core.Path.{_≡_, refl, sym}
-use mathlib.Core.Bool.{Bool, true, false, _&&_}
-use mathlib.Core.List.{List, [], _∷_}
-use Prim.Native.Nat.{ℕ, suc, _+_, _-_, _<_}
+-- Who is ready keeps his place until a selection from his class moves him up, and runs within the selections left
+use mathlib.Core.Path.{_≡_, refl, sym, ap, _∙_}
+use mathlib.Core.Bool.{Bool, true, false}
+use mathlib.Core.List.{List, [], _∷_, _++_}
+use mathlib.Core.Logic.{⊎-elim}
+use Prim.Native.Nat.{ℕ, zero, suc, _+_, _-_, _*_, _/_, _<_, _≤_}
 use native.Mathlib.Omega.{arith}
-use lib.Dec.{ltb, leb}
-use lib.Seq.{getD-set-same}
-use borrow.Author.Tests.{lt-ltb, ltb-true}
-use Rattle.notation.proofs.Upto.{split, never, both}
-use Rattle.image.specs.Refusal.{Reply, taken, refused}
+use lib.Dec.{eqb}
+use borrow.Author.Tests.{eqb-true, eqb-false}
+use Rattle.notation.proofs.Upto.{split, never}
+use Rattle.word.specs.Word.{bit}
 use Rattle.machine.specs.declared.Machine.{Machine}
-use Rattle.machine.specs.State.{nobody, noQueue, proc, ready}
+use Rattle.machine.specs.State.{ready}
 use Rattle.machine.specs.Store.{World}
-use Rattle.machine.specs.Queue.{rest}
-use Rattle.machine.specs.Classes.{setRunning, pull, wake, best, start, selects, select}
-use Rattle.machine.specs.Sound.{inQueue, isReady, places}
-use Rattle.machine.specs.Offer.{offered, Offer, offer, after}
+use Rattle.machine.specs.Classes.{source, countFrom, selection}
+use Rattle.machine.specs.Offer.{Offer, offer, after}
 use Rattle.promises.specs.SoundKept.{afterAll}
-use Rattle.promises.proofs.Counts.{stands, sits-self, sum-get}
-use Rattle.promises.proofs.Selected.{wake-other}
-use Rattle.waiting.specs.Count.{accepted, countIn}
-use Rattle.waiting.specs.Selection.{Ending, ends, takes, selectsAt, Chosen}
-use Rattle.waiting.specs.Waiting.{InPlace, selectionsIn, ReadyStill, RunsThen, RunsAtSelection}
-use Rattle.waiting.proofs.Places.{Stands, stands-of, place-of, stands-rest}
-use Rattle.waiting.proofs.Replies.{replyTo, doing, offer-is}
-use Rattle.waiting.proofs.Good.{Good, is-sound, next-good, later-good}
-use Rattle.waiting.proofs.Selection.{doing-chosen}
-use Rattle.waiting.proofs.Ready.{Tidy, wakes, Grows, grows, nothing, ends-grown}
+use Rattle.waiting.specs.Count.{countIn}
+use Rattle.waiting.specs.Selection.{selectsAt, selectsFrom}
+use Rattle.waiting.specs.Waiting.{selectionsIn, selectionsFrom, RunsWithin}
+use Rattle.waiting.proofs.Places.{Stands}
+use Rattle.waiting.proofs.Ready.{line, Tidy}
+use Rattle.waiting.proofs.Taken.{Rested, Selected, Turn, turn, selection-runs, selection-moves, selection-keeps, selection-tidy, selection-count}
+use Rattle.waiting.proofs.Room.{Rule}
 
--- ---- the first of class 0 starts
-start-moves : (m : Machine) (k i : ℕ) → Tidy (m .ready) → Stands (ready m 0) (suc k) i → Stands (ready (start m 0) 0) k i
-unfolding start setRunning pull
-start-moves m k i t s = rw (getD-set-same (m .ready) 0 (rest (ready m 0)) noQueue (t .some)) (stands-rest (t .few) s)
+module _ (code : List ℕ) where
+  abbrev then : World → Offer → World
+  then w x = after w (offer code w x)
 
-start-runs : (m : Machine) (i : ℕ) → Stands (ready m 0) 0 i → (start m 0) .running ≡ i
-unfolding start setRunning
-start-runs m i s = s .there
+  next-tidy : (w : World) (x : Offer) → Tidy (line (w .machine)) → Tidy (line ((then w x) .machine))
+  next-tidy w x t = ⊎-elim (λ a. a .grown .tidy t) (λ a. rw (a .is) (selection-tidy (a .from) (a .grown .tidy t))) (turn w code x)
 
-best-zero : (m : Machine) → 0 < (ready m 0) .len → best m ≡ 0
-unfolding best
-best-zero m l = rw (lt-ltb 0 ((ready m 0) .len) l)
+  pub later-tidy : (w : World) (xs : List Offer) → Tidy (line (w .machine)) → Tidy (line ((afterAll code w xs) .machine))
+  unfolding afterAll
+  later-tidy w [] t = t
+  later-tidy w (x ∷ xs) t = later-tidy (then w x) xs (next-tidy w x t)
 
--- who goes to the tail of another class leaves class 0 as it is
-aside-ready : (m : Machine) → 0 < (proc m (m .running)) .class → ready (wake (setRunning m nobody) (m .running)) 0 ≡ ready m 0
-unfolding setRunning
-aside-ready m b = wake-other (setRunning m nobody) (m .running) 0 (λ e. omega arith)
+  module _ (c : ℕ) (small : c < 3) where
+    -- ---- an offer moves nobody of class c, moves them up, or lets the first run
+    module _ (w : World) (x : Offer) (t : Tidy (line (w .machine))) where
+      stays : (k i : ℕ) → selectsFrom code c w x ≡ false → Stands (ready (w .machine) c) k i → Stands (ready ((then w x) .machine) c) k i
+      stays k i u s =
+          ⊎-elim
+          (λ a. a .grown .keeps t c k i small s)
+          (λ a.
+          let n = eqb-false (source (a .from)) c (sym (a .there c) ∙ u) in
+          rw (a .is) (selection-keeps (a .from) (a .grown .tidy t) c small k i n (a .grown .keeps t c k i small s)))
+          (turn w code x)
 
-aside-tidy : (m : Machine) → Tidy (m .ready) → Tidy ((wake (setRunning m nobody) (m .running)) .ready)
-unfolding setRunning
-aside-tidy m t = wakes (setRunning m nobody) (m .running) .tidy t
+      moves : (k i : ℕ) → selectsFrom code c w x ≡ true → Stands (ready (w .machine) c) (suc k) i → Stands (ready ((then w x) .machine) c) k i
+      moves k i u s =
+          ⊎-elim
+          (λ a. never (sym u ∙ a .nowhere c))
+          (λ a.
+          let e = eqb-true (source (a .from)) c (sym (a .there c) ∙ u) in
+          rw (a .is) (selection-moves (a .from) (a .grown .tidy t) c small k i e (a .grown .keeps t c (suc k) i small s)))
+          (turn w code x)
 
-better : (m : Machine) → leb nobody (m .running) ≡ false → best m ≡ 0 → selects m ≡ true → 0 < (proc m (m .running)) .class
-unfolding selects
-better m n z e = let c = rw (n, z) at e in ltb-true 0 _ (both (ltb 0 ((proc m (m .running)) .class)) (ltb 0 3) c .0)
+      pub runs : (i : ℕ) → selectsFrom code c w x ≡ true → Stands (ready (w .machine) c) 0 i → (then w x) .machine .running ≡ i
+      runs i u s =
+          ⊎-elim
+          (λ a. never (sym u ∙ a .nowhere c))
+          (λ a.
+          let e = eqb-true (source (a .from)) c (sym (a .there c) ∙ u) in
+          rw (a .is) (selection-runs (a .from) c i e (a .grown .keeps t c 0 i small s)))
+          (turn w code x)
 
--- a selection, where class 0 has somebody, starts its first
-record Begins (m : Machine) : Type 0 where
-  from : Machine
-  is : select m ≡ start from 0
-  same : ready from 0 ≡ ready m 0
-  tidy : Tidy (from .ready)
+    -- who stands at n + k, from 0, stands at k after n selections from class c
+    pub moves-up : (w : World) (xs : List Offer) (n k i : ℕ) → Tidy (line (w .machine)) → selectionsFrom code c w xs ≡ n
+        → Stands (ready (w .machine) c) (n + k) i → Stands (ready ((afterAll code w xs) .machine) c) k i
+    unfolding countIn afterAll
+    moves-up w [] n k i t e s = let p : n + k ≡ k = omega arith in rw p at s
+    moves-up w (x ∷ xs) n k i t e s =
+        let v : World = then w x in
+        let r : ℕ = selectionsFrom code c v xs in
+        split (selectsFrom code c w x)
+        (λ u.
+        let d : 1 + r ≡ n = rw u at e in
+        let p : n + k ≡ suc (r + k) = omega arith in
+        moves-up v xs r k i (next-tidy w x t) refl (moves w x t (r + k) i u (rw p at s)))
+        (λ u.
+        let d : 0 + r ≡ n = rw u at e in
+        let p : n + k ≡ r + k = omega arith in
+        moves-up v xs r k i (next-tidy w x t) refl (stays w x t (r + k) i u (rw p at s)))
 
-begins : (m : Machine) → Tidy (m .ready) → selects m ≡ true → 0 < (ready m 0) .len → Begins m
-unfolding select
-begins m t e l =
-    let z = best-zero m l in
-    let u : Machine = wake (setRunning m nobody) (m .running) in
-    split (leb nobody (m .running))
-    (λ n. record { from = m; is = rw (e, n, z); same = refl; tidy = t })
-    (λ n. record { from = u; is = rw (e, n, z); same = aside-ready m (better m n z e); tidy = aside-tidy m t })
+    -- ---- within the selections left
+    module _ (i : ℕ) (Room : ℕ → ℕ → ℕ → Type 0) (rule : Rule c Room) where
+      -- one more offer before
+      later : (w : World) (x : Offer) (xs : List Offer) (k r k′ r′ : ℕ) → bit (selectsFrom code c w x) + k ≡ k′ → bit (selectsAt code w x) + r ≤ r′
+          → RunsWithin code (then w x) c k r i xs → RunsWithin code w c k′ r′ i (x ∷ xs)
+      unfolding countIn afterAll
+      later w x xs k r k′ r′ e l z =
+          record {
+            ys = x ∷ z .ys;
+            zs = z .zs;
+            whole = ap (λ (l : List Offer). x ∷ l) (z .whole);
+            runs = z .runs;
+            kth = omega (arith, z .kth);
+            soon = omega (arith, z .soon);
+          }
 
--- ---- what an offer does to class 0, where s says that a process is taken in it
-record Passes (m v : Machine) (s : Bool) : Type 0 where
-  moves : s ≡ true → (k i : ℕ) → Stands (ready m 0) (suc k) i → Stands (ready v 0) k i
-  runs : s ≡ true → (i : ℕ) → Stands (ready m 0) 0 i → v .running ≡ i
-  stays : s ≡ false → (k i : ℕ) → Stands (ready m 0) k i → Stands (ready v 0) k i
+      at-once : (w : World) (x : Offer) (xs : List Offer) (r : ℕ) → (then w x) .machine .running ≡ i → bit (selectsFrom code c w x) ≡ 1 → bit (selectsAt code w x) ≤ r
+          → RunsWithin code w c 1 r i (x ∷ xs)
+      unfolding countIn afterAll
+      at-once w x xs r e f l =
+          record { ys = x ∷ []; zs = xs; whole = refl; runs = e; kth = omega arith; soon = omega arith }
 
-unmoved : (m v : Machine) → v .ready ≡ m .ready → Passes m v false
-unmoved m v e = record { moves = λ b. never (sym b); runs = λ b. never (sym b); stays = λ b k i s. rw e s }
+      -- a selection, and what follows it
+      module _ (w : World) (x : Offer) (xs : List Offer) (t : Tidy (line (w .machine)))
+          (a : Selected (w .machine) ((then w x) .machine) (selectsAt code w x) (λ c. selectsFrom code c w x))
+          (on : (k r : ℕ) → Stands (ready ((then w x) .machine) c) k i → Room k ((then w x) .machine .count) r → r ≤ selectionsIn code (then w x) xs
+          → RunsWithin code (then w x) c (suc k) r i xs) where
+        tidy : Tidy (line (a .from))
+        tidy = a .grown .tidy t
 
-module _ (m : Machine) (t : Tidy (m .ready)) where
-  select-moves : (k i : ℕ) → selects m ≡ true → Stands (ready m 0) (suc k) i → Stands (ready (select m) 0) k i
-  select-moves k i e s =
-      let b = begins m t e (omega (arith, s .within)) in
-      rw (b .is) (start-moves (b .from) k i (b .tidy) (rw (b .same) s))
+        one : bit (selectsAt code w x) ≡ 1
+        one = rw (a .some)
 
-  select-runs : (i : ℕ) → selects m ≡ true → Stands (ready m 0) 0 i → (select m) .running ≡ i
-  select-runs i e s =
-      let b = begins m t e (s .within) in
-      rw (b .is) (start-runs (b .from) i (rw (b .same) s))
+        count : (then w x) .machine .count ≡ countFrom (a .from) (source (a .from))
+        count = ap (λ (m : Machine). m .count) (a .is) ∙ selection-count (a .from)
 
-  select-stays : (k i : ℕ) → selects m ≡ false → Stands (ready m 0) k i → Stands (ready (select m) 0) k i
-  unfolding select
-  select-stays k i e s = rw e s
+        -- from another class
+        past : (k r : ℕ) → eqb (source (a .from)) c ≡ false → Stands (ready (w .machine) c) k i → Room k (w .machine .count) r
+            → r ≤ selectionsIn code w (x ∷ xs) → RunsWithin code w c (suc k) r i (x ∷ xs)
+        unfolding countIn
+        past k r b s m l =
+            let z = a .there c ∙ b in
+            let zero′ : bit (selectsFrom code c w x) ≡ 0 = rw z in
+            let some : 0 < (ready (a .from) c) .len = omega (arith, a .grown .keeps t c k i small s .within) in
+            let p = rule .passed (a .from) k r tidy (eqb-false (source (a .from)) c b) some (rw (a .grown .count) m) in
+            later w x xs (suc k) (r - 1) (suc k) r (omega arith) (omega (arith, one, rule .some (w .machine) k r t m))
+            (on k (r - 1) (stays w x t k i z s) (rw count p) (omega (arith, one)))
 
-chosen : (m : Machine) (e : Ending) (v : Machine) → Tidy (m .ready) → Grows (m .ready) e → Chosen m e v → Passes m v (takes e)
-chosen m _ v t (grows {v = u} g) c =
-    let d = g .tidy t in
-    rw c
-    (record {
-      moves = λ b k i s. select-moves u d k i b (g .keeps t (suc k) i s);
-      runs = λ b i s. select-runs u d i b (g .keeps t 0 i s);
-      stays = λ b k i s. select-stays u d k i b (g .keeps t k i s);
-    })
-chosen m _ v t nothing c = unmoved m v (c .1)
+        within : (k r : ℕ) → Stands (ready (w .machine) c) k i → Room k (w .machine .count) r → r ≤ selectionsIn code w (x ∷ xs)
+            → RunsWithin code w c (suc k) r i (x ∷ xs)
+        unfolding countIn
+        within zero r s m l =
+            split (eqb (source (a .from)) c)
+            (λ b.
+            let z = a .there c ∙ b in
+            let one′ : bit (selectsFrom code c w x) ≡ 1 = rw z in
+            at-once w x xs r (runs w x t i z s) one′ (omega (arith, one, rule .some (w .machine) 0 r t m)))
+            (λ b. past 0 r b s m l)
+        within (suc k) r s m l =
+            split (eqb (source (a .from)) c)
+            (λ b.
+            let z = a .there c ∙ b in
+            let one′ : bit (selectsFrom code c w x) ≡ 1 = rw z in
+            let e = eqb-true (source (a .from)) c b in
+            let p = rule .nearer (a .from) k r tidy e (rw (a .grown .count) m) in
+            later w x xs (suc k) (r - 1) (suc (suc k)) r (omega arith) (omega (arith, one, rule .some (w .machine) (suc k) r t m))
+            (on k (r - 1) (moves w x t k i z s) (rw (count, e) p) (omega (arith, one))))
+            (λ b. past (suc k) r b s m l)
 
-module _ (w : World) (t : Tidy (w .machine .ready)) (code : List ℕ) (x : Offer) where
-  reply-passes : (y : Reply)
-      → Passes (w .machine) ((after w (offered y (doing code w x))) .machine) (accepted (offered y (doing code w x)) && takes (ends code w x))
-  reply-passes (taken vs) = chosen (w .machine) (ends code w x) _ t (ends-grown w code x) (doing-chosen w code x)
-  reply-passes (refused k vs) = unmoved (w .machine) (w .machine) refl
-
-  passes : Passes (w .machine) ((after w (offer code w x)) .machine) (selectsAt code w x)
-  passes = rw (offer-is code w x) (reply-passes (replyTo code w x))
-
--- ---- any offers
-is-tidy : {m : Machine} → Good m → Tidy (m .ready)
-is-tidy h =
-    let c = is-sound h .placed .classes in
-    record { some = omega (arith, c .three); few = c .each 0 (omega arith) .few }
-
--- who stands at n + j, from 0, stands at j after n selections
-moves-up : (code : List ℕ) (w : World) (xs : List Offer) (n j i : ℕ) → Good (w .machine) → selectionsIn code w xs ≡ n
-    → Stands (ready (w .machine) 0) (n + j) i → Stands (ready ((afterAll code w xs) .machine) 0) j i
-unfolding countIn afterAll
-moves-up code w [] n j i h e s = let p : n + j ≡ j = omega arith in rw p at s
-moves-up code w (x ∷ xs) n j i h e s =
-    let v : World = after w (offer code w x) in
-    let r : ℕ = selectionsIn code v xs in
-    let t = passes w (is-tidy h) code x in
-    let h′ = next-good code w x h in
-    split (selectsAt code w x)
-    (λ u.
-    let c : 1 + r ≡ n = rw u at e in
-    let p : n + j ≡ suc (r + j) = omega arith in
-    moves-up code v xs r j i h′ refl (t .moves u (r + j) i (rw p at s)))
-    (λ u.
-    let c : 0 + r ≡ n = rw u at e in
-    let p : n + j ≡ r + j = omega arith in
-    moves-up code v xs r j i h′ refl (t .stays u (r + j) i (rw p at s)))
-
--- who is ready does not run
-not-running : {m : Machine} (k i : ℕ) → Good m → Stands (ready m 0) k i → m .running ≡ i → ⊥
-unfolding places isReady
-not-running {m} k i h s e =
-    let f = is-sound h .placed in
-    let l = rw (s .there) at (f .classes .each 0 (omega arith) .each k (s .within) .0) in
-    let z = rw (s .there) at (stands (ready m 0) k (s .within)) in
-    let p = rw e at (f .each i l) in
-    let c = sum-get (λ c. inQueue i (ready m c)) 3 0 (omega arith) in
-    omega (arith, sits-self i)
-
--- ---- place j of class 0 runs at the j-th selection
-module _ (code : List ℕ) (w : World) (j i : ℕ) (xs : List Offer) (h : Good (w .machine)) (p : InPlace (ready (w .machine) 0) j i) where
-  abbrev n : ℕ
-  n = selectionsIn code w xs
-
-  moved : n < j → Stands (ready ((afterAll code w xs) .machine) 0) (j - 1 - n) i
-  moved l =
-      let e : j - 1 ≡ n + (j - 1 - n) = omega arith in
-      moves-up code w xs n (j - 1 - n) i h refl (rw (← e) (stands-of p))
-
-  before : ReadyStill code w j i xs
-  before l =
-      let s = moved l in
-      (place-of (j - n) (j - 1 - n) (omega arith) (omega arith) s, not-running (j - 1 - n) i (later-good code w xs h) s)
-
-  then : RunsThen code w j i xs
-  then x e u =
-      let z : j - 1 - n ≡ 0 = omega arith in
-      passes (afterAll code w xs) (is-tidy (later-good code w xs h)) code x .runs u i (rw z at (moved (omega arith)))
-
-pub runs-at-selection : RunsAtSelection
-runs-at-selection code w j i xs a b p =
-    let h : Good (w .machine) = record { shaped = a; sound = b } in
-    (before code w j i xs h p, then code w j i xs h p)
+      pub in-time : (w : World) (xs : List Offer) (k r : ℕ) → Tidy (line (w .machine)) → Stands (ready (w .machine) c) k i → Room k (w .machine .count) r
+          → r ≤ selectionsIn code w xs → RunsWithin code w c (suc k) r i xs
+      unfolding countIn
+      in-time w [] k r t s m l = absurd (omega (arith, rule .some (w .machine) k r t m))
+      in-time w (x ∷ xs) k r t s m l =
+          let v : World = then w x in
+          let t′ = next-tidy w x t in
+          let on = in-time v xs in
+          ⊎-elim
+          (λ a.
+          let b : bit (selectsAt code w x) ≡ 0 = rw (a .none) in
+          let f : bit (selectsFrom code c w x) ≡ 0 = rw (a .nowhere c) in
+          let m′ : Room k (v .machine .count) r = rw (a .grown .count) m in
+          later w x xs (suc k) r (suc k) r (omega arith) (omega arith)
+          (on k r t′ (stays w x t k i (a .nowhere c) s) m′ (omega arith)))
+          (λ a. within w x xs t a (λ k r s m l. on k r t′ s m l) k r s m l)
+          (turn w code x)

@@ -24,19 +24,19 @@ module _ (w : World) where
   unfolding halted
   call-chosen (on v) = refl
   call-chosen (starts d v) = refl
-  call-chosen (stops f) = (refl, refl)
+  call-chosen (stops f) = (refl, refl, refl)
 
   out-chosen : (o : Out) (common own : List ℕ) → Chosen (w .machine) (outEnds w o) ((resulted w o common own) .world .machine)
   unfolding halted
   out-chosen (next r) common own = refl
-  out-chosen (faults f) common own = (refl, refl)
+  out-chosen (faults f) common own = (refl, refl, refl)
   out-chosen (calls k) common own = call-chosen (kernel w k)
 
   step-chosen : (code : List ℕ) → Chosen (w .machine) (stepEnds code w) ((step code w) .world .machine)
   unfolding stepEnds step
   step-chosen code =
       let d : Effect = instruct (view code w) in
-      split (leb nobody (w .machine .running)) (λ t. rw t (refl, refl)) (λ t. rw t (out-chosen (d .out) (d .common) (d .own)))
+      split (leb nobody (w .machine .running)) (λ t. rw t (refl, refl, refl)) (λ t. rw t (out-chosen (d .out) (d .common) (d .own)))
 
   pub doing-chosen : (code : List ℕ) (x : Offer) → Chosen (w .machine) (ends code w x) ((doing code w x) .world .machine)
   unfolding tickEnds tick doneEnds deviceDone bellEnds bell

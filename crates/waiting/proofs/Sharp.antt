@@ -15,10 +15,10 @@ use Rattle.machine.specs.Store.{World}
 use Rattle.machine.specs.Queue.{pushed, rest}
 use Rattle.machine.specs.Job.{takesStop}
 use Rattle.machine.specs.Instruction.{instruct, execute, perform, ktrap}
-use Rattle.machine.specs.Classes.{setRunning, push, pull, wake, best, start, selects, select}
+use Rattle.machine.specs.Classes.{setRunning, push, pull, wake, best, start, due, source, countFrom, selection, aside, selects, select}
 use Rattle.machine.specs.Gate.{entered, given, join, advance, sit, grant, giveUp, pass, handOn, enter, leave, delay, continue, makeGate, mayLeave, mayContinue, mayDelay}
 use Rattle.machine.specs.Clock.{clockWait, clockOne, clockWake}
-use Rattle.machine.specs.Call.{passed, born, placeChild, createProcess, call8, call9, kernel}
+use Rattle.machine.specs.Call.{passed, born, createProcess, call8, call9, kernel}
 use Rattle.machine.specs.Step.{step}
 use Rattle.machine.specs.Sound.{inQueue, inCells, atGate, isReady, places, queueOk, classOk, heldOf, gateOk, isAtGates, holdsOk, jobOk, marksOk, processOk, deviceOk, numbersOk, sound}
 use Rattle.machine.specs.Release.{releases, completes}
@@ -32,7 +32,7 @@ use Rattle.waiting.proofs.Offers.{count-first}
 use Rattle.waiting.proofs.Waiting.{holds-at-release}
 
 -- ---- the lengths of the arrays, tested
-abbrev fits : Machine → Bool
+abbrev pub fits : Machine → Bool
 fits m =
     eqb (length (m .processes)) 10
     && eqb (length (m .gates)) 25
@@ -49,7 +49,7 @@ each : {whole : Bool} (f : ℕ → ℕ) (size n : ℕ) → whole ≡ true → (a
     → (k : ℕ) → k < n → f k ≡ size
 each f size n t e k l = eqb-true (f k) size (all-at (λ k. eqb (f k) size) n k (part (allTo (λ k. eqb (f k) size) n) t e) l)
 
-shape : (m : Machine) → fits m ≡ true → Shaped m
+pub shape : (m : Machine) → fits m ≡ true → Shaped m
 shape m t =
     record {
       processes = equal (length (m .processes)) 10 t (λ u. rw u);
@@ -98,7 +98,7 @@ sharp-at {code} {w} {g} {k} {d} {i} {xs} c =
     }
 
 computed : Computed continues oneWaits 0 1 2 3 (aStep ∷ aStep ∷ []) aStep × Computed delaysContinues twoWait 0 2 0 2 (aStep ∷ aStep ∷ []) aStep
-unfolding sumTo allTo started fresh withProcess pushed rest takesStop instruct execute perform ktrap setRunning push pull wake best start selects select entered given join advance sit grant giveUp pass handOn enter leave delay continue makeGate mayLeave mayContinue mayDelay clockWait clockOne clockWake passed born placeChild createProcess call8 call9 kernel step inQueue inCells atGate isReady places queueOk classOk heldOf gateOk isAtGates holdsOk jobOk marksOk processOk deviceOk numbersOk sound releases completes offerStep offer afterAll countIn
+unfolding sumTo allTo started fresh withProcess pushed rest takesStop instruct execute perform ktrap setRunning push pull wake best start due source countFrom selection aside selects select entered given join advance sit grant giveUp pass handOn enter leave delay continue makeGate mayLeave mayContinue mayDelay clockWait clockOne clockWake passed born createProcess call8 call9 kernel step inQueue inCells atGate isReady places queueOk classOk heldOf gateOk isAtGates holdsOk jobOk marksOk processOk deviceOk numbersOk sound releases completes offerStep offer afterAll countIn
 computed = (
   record {
     fit = refl;

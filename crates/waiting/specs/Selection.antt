@@ -1,17 +1,17 @@
 -- In which offers a process is taken. Document 01: "After each instruction and event, a running process with a strictly better
--- class ready goes to the tail of its own and the head of the best class runs; (..). Taking a process so is a selection"
+-- class ready goes to the tail of its own and the head of the best class runs; (..). Taking a process so is a selection"; from which class, document 02, W-212, says
 use mathlib.Core.Path.{_≡_}
 use mathlib.Core.Bool.{Bool, true, false, _&&_}
 use mathlib.Core.List.{List}
 use Prim.Native.Nat.{ℕ}
-use lib.Dec.{leb}
+use lib.Dec.{leb, eqb}
 use Rattle.notation.specs.If.{if}
 use Rattle.machine.specs.declared.Machine.{Machine}
 use Rattle.machine.specs.State.{nobody, proc, withProcess, withRegs}
 use Rattle.machine.specs.Store.{World}
 use Rattle.machine.specs.View.{Out, next, faults, calls}
 use Rattle.machine.specs.Instruction.{instruct}
-use Rattle.machine.specs.Classes.{selects, select}
+use Rattle.machine.specs.Classes.{source, aside, selects, select}
 use Rattle.machine.specs.Clock.{timePasses, slicePasses, bellWake}
 use Rattle.machine.specs.Device.{deviceEnd}
 use Rattle.machine.specs.Call.{Called, on, starts, stops, kernel}
@@ -58,14 +58,22 @@ abbrev pub takes : Ending → Bool
 takes (choosing m) = selects m
 takes none = false
 
--- the offer is accepted, and a process is taken in its selection
+-- it is taken from class c, where the running process stands at the tail of its own
+abbrev pub takesFrom : ℕ → Ending → Bool
+takesFrom c (choosing m) = selects m && eqb (source (aside m)) c
+takesFrom c none = false
+
+-- the offer is accepted, and a process is taken in its selection; from class c
 abbrev pub selectsAt : List ℕ → World → Offer → Bool
 selectsAt code w x = accepted (offer code w x) && takes (ends code w x)
 
--- ---- that the machine after an accepted offer is that selection; where there is none, the same process runs and the same are ready
+abbrev pub selectsFrom : List ℕ → ℕ → World → Offer → Bool
+selectsFrom code c w x = accepted (offer code w x) && takesFrom c (ends code w x)
+
+-- ---- that the machine after an accepted offer is that selection; where there is none, the same process runs, the same are ready, and the count is the same
 abbrev pub Chosen : Machine → Ending → Machine → Type 0
 Chosen m (choosing v) after = after ≡ select v
-Chosen m none after = (after .running ≡ m .running) × (after .ready ≡ m .ready)
+Chosen m none after = (after .running ≡ m .running) × (after .ready ≡ m .ready) × (after .count ≡ m .count)
 
 abbrev pub EndsSo : Type 0
 EndsSo =

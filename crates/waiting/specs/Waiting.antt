@@ -1,10 +1,11 @@
--- The third of the user's demands, on how long a process waits: in place k of a shut gate's queue, with d delayed at that gate, it holds the
--- gate at the k-th release of it, at the latest at the (2k - 1 + d)-th completed leave, delay or continue on it; in place j of class 0 it runs
--- at the j-th selection. From any sound state, whatever is offered
+-- The third of the user's demands, on how long a process waits, as document 02, W-212, amends it: in place k of a shut gate's queue, with d
+-- delayed at that gate, it holds the gate at the k-th release of it, at the latest at the (2k - 1 + d)-th completed leave, delay or continue on
+-- it; in place j of class 0 it runs "no later than selection j + j/8 rounded up"; "place i of class 2 runs by the 9i-th selection". From any
+-- sound state, whatever is offered
 use mathlib.Core.Path.{_≡_}
 use mathlib.Core.Bool.{Bool, true, false, _&&_}
 use mathlib.Core.List.{List, _++_}
-use Prim.Native.Nat.{ℕ, _+_, _-_, _*_, _<_, _≤_}
+use Prim.Native.Nat.{ℕ, _+_, _-_, _*_, _/_, _<_, _≤_}
 use lib.Dec.{ltb}
 use lib.ListN.{getD}
 use Rattle.notation.specs.Upto.{sumTo}
@@ -18,7 +19,7 @@ use Rattle.machine.specs.Sound.{sound}
 use Rattle.machine.specs.Offer.{Offer, aStep, aTick, aDone, aBell, offer, after}
 use Rattle.promises.specs.SoundKept.{Shaped, afterAll}
 use Rattle.waiting.specs.Count.{accepted, countIn}
-use Rattle.waiting.specs.Selection.{selectsAt}
+use Rattle.waiting.specs.Selection.{selectsAt, selectsFrom}
 
 -- process i stands in place k of a queue, whose first place is 1
 pub record InPlace (q : Queue) (k i : ℕ) : Type 0 where
@@ -56,9 +57,6 @@ releasesIn code w g xs = countIn code (releasesAt code g) w xs
 
 abbrev pub completesIn : List ℕ → World → ℕ → List Offer → ℕ
 completesIn code w g xs = countIn code (completesAt code g) w xs
-
-abbrev pub selectionsIn : List ℕ → World → List Offer → ℕ
-selectionsIn code w xs = countIn code (selectsAt code) w xs
 
 -- the world after xs and one offer more
 abbrev pub afterNext : List ℕ → World → List Offer → Offer → World
@@ -118,24 +116,73 @@ BoundHandedOn =
     → releasesIn code w g xs < k
     → completesIn code w g xs + bound (k - releasesIn code w g xs) (delayed (afterAll code w xs) g) ≤ bound k (delayed w g)
 
--- with fewer than j selections process i is still ready, by as many places nearer, and does not run; in the j-th it is taken
-abbrev pub ReadyStill : List ℕ → World → ℕ → ℕ → List Offer → Type 0
-ReadyStill code w j i xs =
-    selectionsIn code w xs < j
-    → InPlace (ready ((afterAll code w xs) .machine) 0) (j - selectionsIn code w xs) i × ((afterAll code w xs) .machine .running ≡ i → ⊥)
+-- how many selections there are among the offers xs, one after the other from w; how many of them from class c
+abbrev pub selectionsIn : List ℕ → World → List Offer → ℕ
+selectionsIn code w xs = countIn code (selectsAt code) w xs
 
-abbrev pub RunsThen : List ℕ → World → ℕ → ℕ → List Offer → Type 0
-RunsThen code w j i xs =
+abbrev pub selectionsFrom : List ℕ → ℕ → World → List Offer → ℕ
+selectionsFrom code c w xs = countIn code (selectsFrom code c) w xs
+
+-- with fewer than k selections from class c process i is still ready there, by as many places nearer, and does not run; in the k-th it is taken
+abbrev pub ReadyStill : List ℕ → World → ℕ → ℕ → ℕ → List Offer → Type 0
+ReadyStill code w c k i xs =
+    selectionsFrom code c w xs < k
+    → InPlace (ready ((afterAll code w xs) .machine) c) (k - selectionsFrom code c w xs) i × ((afterAll code w xs) .machine .running ≡ i → ⊥)
+
+abbrev pub RunsThen : List ℕ → World → ℕ → ℕ → ℕ → List Offer → Type 0
+RunsThen code w c k i xs =
     (x : Offer)
-    → selectionsIn code w xs + 1 ≡ j
-    → selectsAt code (afterAll code w xs) x ≡ true
+    → selectionsFrom code c w xs + 1 ≡ k
+    → selectsFrom code c (afterAll code w xs) x ≡ true
     → (afterNext code w xs x) .machine .running ≡ i
 
--- place j of class 0 runs at the j-th selection
+-- nobody is passed over: place k of a class runs at the k-th selection from it
 abbrev pub RunsAtSelection : Type 0
 RunsAtSelection =
-    (code : List ℕ) (w : World) (j i : ℕ) (xs : List Offer)
+    (code : List ℕ) (w : World) (c k i : ℕ) (xs : List Offer)
+    → c < 3
     → Shaped (w .machine)
     → sound (w .machine) ≡ true
-    → InPlace (ready (w .machine) 0) j i
-    → ReadyStill code w j i xs × RunsThen code w j i xs
+    → InPlace (ready (w .machine) c) k i
+    → ReadyStill code w c k i xs × RunsThen code w c k i xs
+
+-- xs has a first part after which i runs, with k selections from class c and at most n selections
+pub record RunsWithin (code : List ℕ) (w : World) (c k n i : ℕ) (xs : List Offer) : Type 0 where
+  pub ys : List Offer
+  pub zs : List Offer
+  pub whole : xs ≡ ys ++ zs
+  pub runs : (afterAll code w ys) .machine .running ≡ i
+  pub kth : selectionsFrom code c w ys ≡ k
+  pub soon : selectionsIn code w ys ≤ n
+
+abbrev pub RunsBy : ℕ → (ℕ → ℕ) → Type 0
+RunsBy c bound =
+    (code : List ℕ) (w : World) (k i : ℕ) (xs : List Offer)
+    → Shaped (w .machine)
+    → sound (w .machine) ≡ true
+    → InPlace (ready (w .machine) c) k i
+    → bound k ≤ selectionsIn code w xs
+    → RunsWithin code w c k (bound k) i xs
+
+-- "no later than selection j + j/8 rounded up"; "by the 9i-th selection"
+abbrev pub bound0 : ℕ → ℕ
+bound0 j = j + (j + 7) / 8
+
+abbrev pub bound2 : ℕ → ℕ
+bound2 i = 9 * i
+
+abbrev pub RunsInTime : Type 0
+RunsInTime = RunsBy 0 bound0 × RunsBy 2 bound2
+
+-- from a count of n: by selection j + (j + n - 1)/8 rounded down, and by selection 9i - n
+abbrev pub RunsFrom : ℕ → (ℕ → ℕ → ℕ) → Type 0
+RunsFrom c bound =
+    (code : List ℕ) (w : World) (k i : ℕ) (xs : List Offer)
+    → Shaped (w .machine)
+    → sound (w .machine) ≡ true
+    → InPlace (ready (w .machine) c) k i
+    → bound k (w .machine .count) ≤ selectionsIn code w xs
+    → RunsWithin code w c k (bound k (w .machine .count)) i xs
+
+abbrev pub RunsSooner : Type 0
+RunsSooner = RunsFrom 0 (λ j n. j + (j + n - 1) / 8) × RunsFrom 2 (λ i n. 9 * i - n)

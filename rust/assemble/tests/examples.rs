@@ -33,7 +33,7 @@ fn load(name: &str) -> Machine {
 #[test]
 fn every_image_is_what_its_listing_gives() {
     assert_eq!(names(EXAMPLES, "image"), names(EXAMPLES, "list"));
-    assert_eq!(names(EXAMPLES, "list").len(), 4, "the four of this file");
+    assert_eq!(names(EXAMPLES, "list").len(), 5, "the five of this file");
     assert_eq!(names(TRIALS, "list").len(), 4, "what no example shows");
     for folder in [EXAMPLES, TRIALS] {
         for name in names(folder, "list") {
@@ -101,4 +101,19 @@ fn the_job_finds_the_divisor() {
     assert_eq!(machine.run(10_000), Ok(Ran { end: End::Stopped, count: 4 }));
     assert_eq!(machine.stop(), Some(Stop { number: 5, line: 6 }));
     assert_eq!(machine.common()[0], 0);
+}
+
+/// The two that hand the gate on are selected every few instructions, and the ninth selection is the health test's.
+#[test]
+fn the_health_test_does_not_starve() {
+    let mut machine = load("health");
+    assert_eq!(machine.run(1000).map(|ran| ran.end), Ok(End::Idle));
+    assert_eq!(machine.common()[0], 0);
+    wait_for_the_second(&mut machine);
+    for second in 1..=3 {
+        assert_eq!(machine.seconds(), second);
+        assert_eq!(machine.run(200), Ok(Ran { end: End::Budget, count: 200 }));
+        assert_eq!(machine.common()[0], second);
+        (0..1000).for_each(|_| machine.tick().expect("it goes on"));
+    }
 }

@@ -1,6 +1,6 @@
 //! A machine's state, code and stores, as they are offered.
 
-use plumbsorrel::slices;
+use plumbsorrel::{slices, STATE};
 
 #[derive(Clone)]
 pub struct World {
@@ -22,7 +22,7 @@ impl World {
         let mut image = vec![0; 512 * (1 + text.len().div_ceil(254))];
         assert_eq!(refusal(slices::write(1, n, devices, 0, text, &mut image)), 0, "the image is written");
         let mut w =
-            World { code: vec![0; text.len()], common: vec![0; 2048], private: vec![0; 20480], state: vec![0; 820] };
+            World { code: vec![0; text.len()], common: vec![0; 2048], private: vec![0; 20480], state: vec![0; STATE] };
         let World { code, common, private, state } = &mut w;
         assert_eq!(refusal(slices::load(&image, code, common, private, state)), 0, "the image is loaded");
         w
@@ -42,6 +42,11 @@ impl World {
 
     pub fn made(&self) -> u16 {
         self.state[812]
+    }
+
+    /// Whether process 0 is of class 2, and another of class 2 is ready.
+    pub fn is_before_others(&self) -> bool {
+        self.state[13] == 2 && self.state[762] != 0
     }
 
     /// The code address of process 0.

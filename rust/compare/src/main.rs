@@ -8,7 +8,7 @@ use model::Model;
 use std::process::ExitCode;
 use std::time::Instant;
 
-const USAGE: &str = "compare [--seed S] [--steps N] [--case K] [--plant NAME] [--stand-in] | --planted | --list";
+const USAGE: &str = "compare [--seed S] [--steps N] [--stand-in] [--case K] [--plant NAME] | --planted | --list";
 
 #[derive(Default)]
 struct Options {
@@ -44,9 +44,16 @@ fn options() -> Result<Options, String> {
     Ok(options)
 }
 
+fn library(options: &Options) -> Box<dyn Library> {
+    if options.stand_in {
+        Box::new(Model::new(None))
+    } else {
+        Box::new(Linked)
+    }
+}
+
 fn run(options: &Options) -> ExitCode {
-    let library: Box<dyn Library> = if options.stand_in { Box::new(Model::new(None)) } else { Box::new(Linked) };
-    let mut world = World::new(Model::new(options.plant), library);
+    let mut world = World::new(Model::new(options.plant), library(options));
     let start = Instant::now();
     let cases = options.case.map_or(0..u64::MAX, |case| case..case + 1);
     let compared = compare(&mut world, options.seed, cases, options.steps.unwrap_or(1_000_000));
@@ -94,7 +101,7 @@ fn main() -> ExitCode {
         return ExitCode::SUCCESS;
     }
     if options.planted {
-        let all = try_planted(options.seed, options.steps.unwrap_or(5_000_000));
+        let all = try_planted(options.seed, options.steps.unwrap_or(5_000_000), || library(&options));
         return if all { ExitCode::SUCCESS } else { ExitCode::FAILURE };
     }
     run(&options)

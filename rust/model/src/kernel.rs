@@ -4,7 +4,7 @@ use super::exec::{signed, Effect, Fault, CODE, GATE, LIMIT, POINTER, RANGE};
 use super::machine::Machine;
 use super::planted::Planted;
 use super::state::*;
-use super::tally::{GateMove, Group, Request};
+use super::tally::{GateMove, Group, MarkEnd, Request};
 
 const CALLS: u16 = 12;
 
@@ -16,7 +16,7 @@ impl Machine<'_> {
         let effect = match call {
             0 => {
                 self.state.clock.push_back(r as u8);
-                self.wait(r);
+                self.wait(r, MarkEnd::Clock);
                 Effect::Onward
             }
             1 => {
@@ -42,11 +42,29 @@ impl Machine<'_> {
         };
         self.state.processes[r].address = next;
         self.tally.add(Group::Call, usize::from(call));
+        self.keep_mark(call);
         Ok(effect)
     }
 
-    /// The running process `r` runs no longer.
-    fn wait(&mut self, r: usize) {
+    /// A mark that the call has not ended stays.
+    fn keep_mark(&mut self, call: u16) {
+        if !self.state.mark {
+            return;
+        }
+        self.tally.add(Group::MarkKept, usize::from(call));
+        let lost = match call {
+            6 => self.is(Planted::EnterUnmarks),
+            7 => self.is(Planted::LeaveUnmarks),
+            9 => self.is(Planted::ContinueUnmarks),
+            10 => self.is(Planted::NewGateUnmarks),
+            _ => false,
+        };
+        self.state.mark = !lost;
+    }
+
+    /// The running process `r` gives up the processor.
+    fn wait(&mut self, r: usize, how: MarkEnd) {
+        self.end_mark(how);
         self.state.running = None;
         if self.is(Planted::SliceReset) {
             self.state.processes[r].slice = 0;
@@ -61,7 +79,7 @@ impl Machine<'_> {
         if self.is(Planted::EndedClass) {
             self.state.processes[r].class = 2;
         }
-        self.wait(r);
+        self.wait(r, MarkEnd::End);
         Ok(Effect::Onward)
     }
 
@@ -100,16 +118,24 @@ impl Machine<'_> {
         }
         self.drop_words(r, 3 + p);
         self.state.processes.push(Process::new(t, v));
-        self.state.running = None;
-        self.join(r as u8);
-        let first = self.state.ready[0].is_empty() && self.state.ready[1].is_empty();
-        if first && !self.is(Planted::ChildWaits) {
-            self.state.running = Some(child as u8);
-        } else {
-            self.tally.add(Group::Moves, 4);
-            self.join(child as u8);
-        }
+        self.give_way(r as u8, child as u8);
         Ok(Effect::Onward)
+    }
+
+    /// The parent goes to the tail of its class, the child to that of class 2; the selection follows the instruction.
+    fn give_way(&mut self, parent: u8, child: u8) {
+        let others = self.state.ready.iter().any(|queue| !queue.is_empty());
+        self.tally.add(Group::Moves, if others { 4 } else { 5 });
+        self.end_mark(MarkEnd::NewProcess);
+        if !self.is(Planted::ParentStays) {
+            self.state.running = None;
+            self.join(parent);
+        }
+        if self.is(Planted::ChildFirst) && self.state.ready[..LOWEST].iter().all(Queue::is_empty) {
+            self.state.running = Some(child);
+        } else {
+            self.join(child);
+        }
     }
 
     fn stop_job(&mut self, r: usize) -> Result<Effect, Fault> {
@@ -208,7 +234,7 @@ impl Machine<'_> {
             self.tally.add(Group::Gate, GateMove::Waited as usize);
             let place = if self.is(Planted::WaitsFirst) { 0 } else { self.state.gates[gate].queue.len() };
             self.state.gates[gate].queue.insert(place, r as u8);
-            self.wait(r);
+            self.wait(r, MarkEnd::Gate);
         }
         Ok(Effect::Onward)
     }
@@ -240,7 +266,7 @@ impl Machine<'_> {
         }
         self.drop_words(r, 2);
         self.state.gates[gate].cells[cell] = Some(r as u8);
-        self.wait(r);
+        self.wait(r, MarkEnd::Delay);
         self.give_up(r, if self.is(Planted::DelayKeepsClass) { 0 } else { 2 });
         self.pass_on(gate);
         Ok(Effect::Onward)
@@ -309,7 +335,7 @@ impl Machine<'_> {
             self.tally.add(Group::Request, Request::Bell as usize + usize::from(busy));
             self.store(r, record + 1, 0);
             self.state.bell.push_back(r as u8);
-            self.wait(r);
+            self.wait(r, MarkEnd::Bell);
             return Ok(if self.is(Planted::BellStarts) { Effect::Started(0) } else { Effect::Onward });
         }
         if !present || busy {
@@ -321,7 +347,7 @@ impl Machine<'_> {
         self.tally.add(Group::Started, device * 4 + usize::from(operation));
         self.store(r, record + 1, 0);
         self.state.devices[device] = Some(Busy { process: r as u8, operation: operation as u8, record });
-        self.wait(r);
+        self.wait(r, MarkEnd::Device);
         Ok(Effect::Started(device as u8))
     }
 }

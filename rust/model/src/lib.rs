@@ -8,6 +8,7 @@ mod jobs;
 mod kernel;
 pub mod machine;
 pub mod planted;
+mod selection;
 pub mod sound;
 pub mod state;
 pub mod tally;
@@ -20,7 +21,7 @@ use planted::Planted;
 use sound::Sentence;
 use state::{State, COMMON, DEVICES, PRIVATE};
 use tally::{Group, Tally};
-use words::{LENGTH_AT, WORDS};
+use words::{FRACTION_AT, LENGTH_AT, WORDS};
 
 /// Words of a device's record.
 pub const RECORD: usize = 4;
@@ -203,7 +204,7 @@ impl Model {
         let device = usize::from(device);
         if status > 6 || device >= DEVICES || state.devices[device].is_none() {
             if self.is(Planted::RefusedTicks) {
-                words[WORDS - 4] = (state.fraction + 10) % 10_000;
+                words[FRACTION_AT] = (state.fraction + 10) % 10_000;
             }
             return Err(Refusal::BadDone);
         }

@@ -1,8 +1,8 @@
-//! A machine at work: its state with the lent stores, selection, clock and events.
+//! A machine at work: its state with the lent stores, clock and events.
 
 use super::planted::Planted;
 use super::state::*;
-use super::tally::{Group, Tally};
+use super::tally::{Group, MarkEnd, Tally};
 
 /// How an instruction or a run ended.
 #[derive(Clone, Copy, Debug, PartialEq, Eq)]
@@ -61,30 +61,6 @@ impl Machine<'_> {
         }
     }
 
-    /// The process joins the tail of its class.
-    pub fn join(&mut self, process: u8) {
-        let class = self.state.processes[usize::from(process)].class;
-        self.state.ready[usize::from(class)].push_back(process);
-    }
-
-    pub fn select(&mut self) {
-        let Some(best) = self.state.ready.iter().position(|queue| !queue.is_empty()) else { return };
-        if let Some(running) = self.state.running {
-            let class = usize::from(self.state.processes[usize::from(running)].class);
-            let better = best < class || self.is(Planted::EqualPreempts) && best == class;
-            if !better {
-                return;
-            }
-            self.tally.add(Group::Moves, 0);
-            if self.is(Planted::PreemptedToHead) {
-                self.state.ready[class].push_front(running);
-            } else {
-                self.join(running);
-            }
-        }
-        self.state.running = self.state.ready[best].pop_front();
-    }
-
     pub fn tick(&mut self) {
         let early = self.state.running.filter(|_| self.is(Planted::SliceBeforeClock));
         if let Some(running) = early {
@@ -131,8 +107,11 @@ impl Machine<'_> {
         let rivals = if waits { &self.state.ready[..class] } else { &self.state.ready[..=class] };
         if rivals.iter().any(|queue| !queue.is_empty()) {
             self.tally.add(Group::SliceEnd, class);
+            self.end_mark(MarkEnd::SliceToTail);
             self.state.running = None;
             self.join(running);
+        } else {
+            self.end_mark(MarkEnd::SliceRunsOn);
         }
     }
 

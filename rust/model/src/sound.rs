@@ -47,6 +47,8 @@ sentences! {
     Fraction "fraction",
     Seconds "seconds",
     StopNumber "stop number",
+    Count "count",
+    Mark "mark",
 }
 
 impl Sentence {
@@ -196,7 +198,9 @@ impl Checker<'_> {
         }
         self.that(state.fraction <= 9_990 && state.fraction.is_multiple_of(10), Sentence::Fraction)?;
         self.that(state.seconds <= 32_767, Sentence::Seconds)?;
-        self.that(state.stop.is_none_or(|number| number <= 9), Sentence::StopNumber)
+        self.that(state.stop.is_none_or(|number| number <= 9), Sentence::StopNumber)?;
+        self.that(state.count <= DUE, Sentence::Count)?;
+        self.that(!state.mark || state.running.is_some(), Sentence::Mark)
     }
 }
 

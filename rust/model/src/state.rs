@@ -8,6 +8,10 @@ pub const CELLS: usize = 8;
 pub const HELD: usize = 8;
 pub const DEVICES: usize = 5;
 pub const CLASSES: usize = 3;
+/// The class that the count serves.
+pub const LOWEST: usize = 2;
+/// The count at which the next selection is from class 2.
+pub const DUE: u8 = 8;
 pub const COMMON: usize = 2048;
 pub const PART: usize = 2048;
 pub const PRIVATE: usize = PROCESSES * PART;
@@ -89,6 +93,10 @@ pub struct State {
     pub bell: Queue,
     pub devices: [Option<Busy>; DEVICES],
     pub running: Option<u8>,
+    /// Selections from class 0 or 1 while class 2 was not empty, since the last from class 2.
+    pub count: u8,
+    /// Whether the running process was selected by the count of 8.
+    pub mark: bool,
     pub stop: Option<u8>,
     pub stop_line: u16,
     pub seconds: u16,
@@ -109,6 +117,8 @@ impl State {
             bell: Queue::new(),
             devices: [None; DEVICES],
             running: Some(0),
+            count: 0,
+            mark: false,
             stop: None,
             stop_line: 0,
             seconds: 0,

@@ -29,6 +29,15 @@ pub enum Group {
     ClockWoken,
     BellWoken,
     Moves,
+    Selection,
+    ByCount,
+    MarkHolds,
+    MarkKept,
+    MarkEnd,
+    Bound0,
+    Longest0,
+    Bound2,
+    Longest2,
     Unsound,
     LeftUnsound,
 }
@@ -62,6 +71,27 @@ pub enum Request {
     BellWhileBusy,
     Absent,
     Busy,
+}
+
+/// Places behind the three classes.
+pub enum Selection {
+    /// A displaced process takes itself again.
+    ItselfAgain = 3,
+    /// The best class at the count of 8, class 2 being empty.
+    EmptyAtEight,
+}
+
+#[derive(Clone, Copy)]
+pub enum MarkEnd {
+    SliceToTail,
+    SliceRunsOn,
+    Clock,
+    Gate,
+    Delay,
+    Bell,
+    Device,
+    End,
+    NewProcess,
 }
 
 /// A group's title, its places' names (numbers if there are none), and the
@@ -119,14 +149,53 @@ const SHEETS: [Sheet; GROUPS] = [
     (
         Group::Moves,
         "moves",
-        &["preempted", "class 1 fell", "argument stored", "device ended for a holder", "child joined class 2"],
+        &[
+            "preempted",
+            "class 1 fell",
+            "argument stored",
+            "device ended for a holder",
+            "child of a parent with others ready",
+            "child of a lone parent",
+        ],
+        &[0, 1, 2, 3, 4, 5],
+    ),
+    (
+        Group::Selection,
+        "selections from",
+        &["class 0", "class 1", "class 2", "class 2, itself again", "a better class at 8, class 2 empty"],
         &[0, 1, 2, 3, 4],
     ),
+    (Group::ByCount, "selections by the count, by the best class ready", &[], &[0, 1, 2]),
+    (Group::MarkHolds, "a marked process kept the processor from class", &[], &[0, 1]),
+    (Group::MarkKept, "marks kept over call", &[], &[1, 5, 6, 7, 9, 10, 11]),
+    (
+        Group::MarkEnd,
+        "marks ended by",
+        &[
+            "slice, to the tail",
+            "slice, running on",
+            "clock wait",
+            "shut gate",
+            "delay",
+            "bell wait",
+            "device start",
+            "end",
+            "new process",
+        ],
+        &[0, 1, 2, 3, 4, 5, 6, 7, 8],
+    ),
+    (Group::Bound0, "class 0, ran at selection j + j/8 rounded up, by place j", &[], &[1, 2, 3, 4, 5, 6, 7, 8]),
+    (Group::Longest0, "class 0, the most selections until it ran, by place", &[], &[]),
+    (Group::Bound2, "class 2, ran at selection 9i, by place i", &[], &[1, 2, 3, 4, 5, 6, 7]),
+    (Group::Longest2, "class 2, the most selections until it ran, by place", &[], &[]),
     (
         Group::Unsound,
         "unsound by",
         Sentence::NAMES,
-        &[0, 1, 2, 3, 4, 5, 6, 7, 8, 9, 10, 11, 12, 13, 14, 15, 16, 17, 18, 19, 20, 21, 22, 23, 24, 25, 26, 27, 28],
+        &[
+            0, 1, 2, 3, 4, 5, 6, 7, 8, 9, 10, 11, 12, 13, 14, 15, 16, 17, 18, 19, 20, 21, 22, 23, 24, 25, 26, 27, 28,
+            29, 30,
+        ],
     ),
     (Group::LeftUnsound, "states left unsound by a taken offer", Sentence::NAMES, &[]),
 ];
@@ -145,6 +214,18 @@ impl Tally {
         if cfg!(feature = "faults") {
             self.0[group as usize][place] += 1;
         }
+    }
+
+    /// A largest value in place of a count.
+    pub fn most(&mut self, group: Group, place: usize, value: u64) {
+        if cfg!(feature = "faults") {
+            let kept = &mut self.0[group as usize][place];
+            *kept = value.max(*kept);
+        }
+    }
+
+    pub fn count(&self, group: Group, place: usize) -> u64 {
+        self.0[group as usize][place]
     }
 
     /// Whether a taken offer broke a sound state: the paper allows none to.

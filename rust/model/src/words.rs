@@ -1,8 +1,8 @@
-//! The state as the 820 words in which it crosses.
+//! The state as the 822 words in which it crosses.
 
 use super::state::*;
 
-pub const WORDS: usize = 820;
+pub const WORDS: usize = 822;
 pub const PROCESS_WORDS: usize = 24;
 pub const GATE_WORDS: usize = 20;
 pub const QUEUE_WORDS: usize = 11;
@@ -14,7 +14,10 @@ pub const BELL_AT: usize = CLOCK_AT + QUEUE_WORDS;
 pub const DEVICES_AT: usize = BELL_AT + QUEUE_WORDS;
 pub const TAIL_AT: usize = DEVICES_AT + DEVICES * DEVICE_WORDS;
 pub const CREATED_AT: usize = TAIL_AT + 1;
+pub const FRACTION_AT: usize = TAIL_AT + 6;
 pub const LENGTH_AT: usize = TAIL_AT + 8;
+pub const COUNT_AT: usize = TAIL_AT + 10;
+pub const MARK_AT: usize = TAIL_AT + 11;
 const HELD_AT: usize = 15;
 const NOBODY: u16 = 10;
 
@@ -44,8 +47,10 @@ const PROCESS_FIELDS: [&str; PROCESS_WORDS] = [
     "held 7",
     "ended",
 ];
-const TAIL_FIELDS: [&str; 10] =
-    ["running", "created", "made", "stop", "line", "seconds", "fraction", "edition", "length", "present"];
+const TAIL_FIELDS: [&str; 12] = [
+    "running", "created", "made", "stop", "line", "seconds", "fraction", "edition", "length", "present", "count",
+    "mark",
+];
 
 fn byte(word: u16) -> Option<u8> {
     u8::try_from(word).ok()
@@ -106,6 +111,14 @@ fn device(words: &[u16]) -> Option<Option<Busy>> {
     Some(someone(words[0])?.map(|process| Busy { process, operation, record: words[2] }))
 }
 
+fn devices(words: &[u16]) -> Option<[Option<Busy>; DEVICES]> {
+    let mut devices = [None; DEVICES];
+    for (place, words) in devices.iter_mut().zip(words.chunks_exact(DEVICE_WORDS)) {
+        *place = device(words)?;
+    }
+    Some(devices)
+}
+
 /// The state that `words` are packed from, if there is one.
 pub fn decode(words: &[u16]) -> Option<State> {
     if words.len() != WORDS {
@@ -122,10 +135,7 @@ pub fn decode(words: &[u16]) -> Option<State> {
     let mut next_queue = || queues.next().flatten();
     let ready = [next_queue()?, next_queue()?, next_queue()?];
     let (clock, bell) = (next_queue()?, next_queue()?);
-    let mut devices = [None; DEVICES];
-    for (place, words) in devices.iter_mut().zip(words[DEVICES_AT..TAIL_AT].chunks_exact(DEVICE_WORDS)) {
-        *place = device(words)?;
-    }
+    let devices = devices(&words[DEVICES_AT..TAIL_AT])?;
     let tail = &words[TAIL_AT..];
     Some(State {
         processes,
@@ -143,6 +153,8 @@ pub fn decode(words: &[u16]) -> Option<State> {
         edition: tail[7],
         length: tail[8],
         present: tail[9],
+        count: byte(tail[10])?,
+        mark: flag(tail[11])?,
     })
 }
 
@@ -215,6 +227,8 @@ pub fn encode(state: &State) -> [u16; WORDS] {
         state.edition,
         state.length,
         state.present,
+        u16::from(state.count),
+        u16::from(state.mark),
     ]);
     words
 }
@@ -245,7 +259,7 @@ pub fn canonical(words: &[u16; WORDS]) -> [u16; WORDS] {
     plain
 }
 
-/// The name of one of the 820 words, for a reader of a difference.
+/// The name of one of the 822 words, for a reader of a difference.
 pub fn field(index: usize) -> String {
     let queue_word = |at: usize| match at {
         0 => "length".to_string(),

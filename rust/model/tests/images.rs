@@ -29,10 +29,14 @@ struct Loaded {
 }
 
 fn load(image: &[u8], common: usize, code: usize) -> Loaded {
+    load_into(image, common, code, WORDS)
+}
+
+fn load_into(image: &[u8], common: usize, code: usize, state: usize) -> Loaded {
     let mut common = vec![UNTOUCHED; common];
     let mut private = vec![UNTOUCHED; PRIVATE];
     let mut code = vec![UNTOUCHED; code];
-    let mut state = vec![UNTOUCHED; WORDS];
+    let mut state = vec![UNTOUCHED; state];
     let number = Model::new(None).load(image, &mut code, &mut common, &mut private, &mut state);
     Loaded { number, common, code, state }
 }
@@ -47,6 +51,15 @@ fn the_example_loads() {
     let process = &state.processes[0];
     assert_eq!((state.running, state.length, state.present, state.edition), (Some(0), 2, 1, 1));
     assert_eq!((process.address, process.class, process.s, process.b, process.c), (0, 2, 4096, 4096, 4096));
+    assert_eq!((state.count, state.mark), (0, false));
+}
+
+#[test]
+fn the_state_is_822_words() {
+    let short = load_into(&example(), COMMON, 2, 821);
+    assert_eq!((short.number, short.state, short.code), (10, vec![UNTOUCHED; 821], vec![UNTOUCHED; 2]));
+    let long = load_into(&example(), COMMON, 2, 823);
+    assert_eq!((long.number, &long.state[817..]), (2 * 256, &[1, 2, 1, 0, 0, UNTOUCHED][..]));
 }
 
 #[test]

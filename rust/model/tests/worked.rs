@@ -225,8 +225,8 @@ fn words_of_a_new_process_stand_in_the_order_pushed() {
     bench.private[2048..4096].fill(9);
     bench.steps(6);
     assert_eq!(bench.private[2048..2053], [11, 22, 0, 0, 0]);
-    assert_eq!(bench.state.running, Some(1));
-    assert_eq!(bench.state.ready[2], queue(&[0]));
+    assert_eq!(bench.state.running, Some(0));
+    assert_eq!(bench.state.ready[2], queue(&[1]));
     assert_eq!((bench.state.processes[1].v, bench.state.processes[0].s), (5, 4096));
 }
 

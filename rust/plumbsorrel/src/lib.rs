@@ -33,7 +33,9 @@ pub use machine::{Machine, Record, Stop};
 use alloc::{vec, vec::Vec};
 
 /// Words of the state.
-pub const STATE: usize = 820;
+pub const STATE: usize = 822;
+/// Version of the state's layout, raised with every request that changes the state's words.
+pub const LAYOUT_VERSION: u32 = 2;
 /// Words of the common store.
 pub const COMMON: usize = 2_048;
 /// Words of the private store, 2,048 for each of ten processes.

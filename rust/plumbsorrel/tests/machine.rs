@@ -1,6 +1,6 @@
 //! The safe interface on document 01's whole example, code 28 4, and on damaged images.
 
-use plumbsorrel::{write, End, Header, Machine, Ran, Refusal, BLOCK, CODE};
+use plumbsorrel::{write, End, Header, Machine, Ran, Refusal, BLOCK, CODE, LAYOUT_VERSION};
 
 const ONE_DEVICE: Header = Header { devices: 1, variables: 0 };
 
@@ -15,7 +15,8 @@ fn the_example_is_written_and_loaded() {
     assert_eq!((image.len(), check(0), check(1)), (1024, 65_531, 65_502));
     let machine = Machine::load(&image).expect("a good image");
     assert_eq!(machine.code(), [28, 4]);
-    assert_eq!((machine.state().len(), machine.common().len(), machine.private().len()), (820, 2048, 20_480));
+    assert_eq!((machine.state().len(), machine.common().len(), machine.private().len()), (822, 2048, 20_480));
+    assert_eq!((LAYOUT_VERSION, &machine.state()[820..]), (2, &[0, 0][..]));
     assert_eq!((machine.is_sound(), machine.stop(), machine.seconds()), (true, None, 0));
 }
 

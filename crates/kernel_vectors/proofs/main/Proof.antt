@@ -5,10 +5,10 @@ use Rattle.kernel_vectors.proofs.main.Statement.{statement}
 use Rattle.kernel_vectors.proofs.main.Tie as tie
 
 abbrev Inv-loop : tie.InvT-loop
-Inv-loop common₀ private₀ m₀ row₀ common private m row = row ≤ 494
+Inv-loop common₀ private₀ m₀ row₀ common private m row = row ≤ 773
 
 abbrev μ-loop : tie.MeasureT-loop
-μ-loop common₀ private₀ m₀ row₀ common private m row = 494 - row
+μ-loop common₀ private₀ m₀ row₀ common private m row = 773 - row
 
 fresh-requires : tie.Need-fresh-requires Inv-loop μ-loop
 fresh-requires c κs = search needs

@@ -49,6 +49,10 @@ impl Asm {
         label
     }
 
+    pub fn length(&self) -> u16 {
+        self.code.len() as u16
+    }
+
     pub fn op(&mut self, code: u16, args: &[u16]) {
         self.code.push(code);
         self.code.extend_from_slice(args);

@@ -7,6 +7,7 @@ pub mod jobs;
 pub mod mutate;
 pub mod programs;
 pub mod states;
+pub mod turns;
 
 use crate::rng::Rng;
 

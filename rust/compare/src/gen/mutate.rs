@@ -1,14 +1,13 @@
-//! One word of the 820 changed, to break soundness or to keep it.
+//! One word of the 822 changed, to break soundness or to keep it.
 
 use super::edgy;
 use crate::rng::Rng;
 use model::words::{self, *};
 
 const SECONDS: usize = TAIL_AT + 5;
-const FRACTION: usize = TAIL_AT + 6;
 const SLICE: usize = 12;
 
-/// A place among the 820 words and a value near some edge.
+/// A place among the 822 words and a value near some edge.
 pub fn word(rng: &mut Rng, state: &[u16]) -> (usize, u16) {
     let created = usize::from(state[CREATED_AT]).clamp(1, 10);
     let made = usize::from(state[TAIL_AT + 2]).clamp(1, 25);
@@ -72,7 +71,7 @@ pub fn several(rng: &mut Rng, state: &[u16]) -> Vec<(usize, u16)> {
     };
     let gate = rng.index(usize::from(state[TAIL_AT + 2]).clamp(1, 25));
     let gate_at = GATES_AT + gate * GATE_WORDS;
-    match rng.below(9) {
+    match rng.below(10) {
         // In a second place.
         0 => append(READY_AT + rng.index(5) * QUEUE_WORDS, number),
         1 => append(gate_at + 1, number),
@@ -88,19 +87,25 @@ pub fn several(rng: &mut Rng, state: &[u16]) -> Vec<(usize, u16)> {
         }
         // Somebody else runs.
         7 => vec![(TAIL_AT, number)],
+        8 => vec![(MARK_AT, 1), (COUNT_AT, rng.below(10) as u16)],
         _ => vec![(TAIL_AT, 10)],
     }
 }
 
+/// The running process's slice, if somebody runs.
+pub fn slice(state: &[u16], value: u16) -> Option<(usize, u16)> {
+    let running = usize::from(state[TAIL_AT]);
+    (running <= 9).then_some((running * PROCESS_WORDS + SLICE, value))
+}
+
 /// A change that keeps a sound state sound and brings an edge near.
 pub fn nudge(rng: &mut Rng, state: &[u16]) -> (usize, u16) {
-    match rng.below(4) {
-        0 => (FRACTION, rng.pick(&[9_970, 9_980, 9_990])),
+    match rng.below(6) {
+        0 => (FRACTION_AT, rng.pick(&[9_970, 9_980, 9_990])),
         1 => (SECONDS, rng.pick(&[32_766, 32_767])),
-        2 => match state[TAIL_AT] {
-            running @ 0..=9 => (usize::from(running) * PROCESS_WORDS + SLICE, rng.pick(&[180, 190])),
-            _ => (FRACTION, 9_990),
-        },
+        2 => slice(state, rng.pick(&[180, 190])).unwrap_or((FRACTION_AT, 9_990)),
+        3 => (COUNT_AT, rng.pick(&[7, 8, 8])),
+        4 => (MARK_AT, u16::from(state[TAIL_AT] <= 9)),
         _ => (rng.index(usize::from(state[CREATED_AT]).clamp(1, 10)) * PROCESS_WORDS + SLICE, 190),
     }
 }

@@ -70,19 +70,33 @@ impl Writer<'_> {
             self.asm.call(10);
             self.asm.call(7);
         }
+        // A parent of class 0 goes on after each call 3, until the count is 8.
+        let holding = self.rng.percent(30);
+        if holding {
+            self.asm.push(0);
+            self.asm.call(6);
+        }
         for _ in 0..self.processes {
-            let p = self.rng.below(5) as u16;
-            for _ in 0..p {
-                let word = edgy(self.rng);
-                self.asm.push(word);
-            }
-            self.asm.push(p);
-            self.asm.push(self.variables);
             let body = self.rng.pick(&bodies);
-            self.asm.to(PUSHCONST, body);
-            self.asm.call(3);
+            self.child(body);
+        }
+        if holding {
+            self.asm.push(0);
+            self.asm.call(7);
         }
         self.process();
+    }
+
+    fn child(&mut self, body: Label) {
+        let p = self.rng.below(5) as u16;
+        for _ in 0..p {
+            let word = edgy(self.rng);
+            self.asm.push(word);
+        }
+        self.asm.push(p);
+        self.asm.push(self.variables);
+        self.asm.to(PUSHCONST, body);
+        self.asm.call(3);
     }
 
     /// A procedure that a process and a job may call.

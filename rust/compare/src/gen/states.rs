@@ -60,9 +60,11 @@ pub enum Flaw {
     EndedHolds,
     JobHolds,
     JobWaits,
+    CountOver,
+    MarkWhileIdle,
 }
 
-pub const FLAWS: [Flaw; 8] = [
+pub const FLAWS: [Flaw; 10] = [
     Flaw::WaiterHoldsEight,
     Flaw::OpenWithWaiter,
     Flaw::ReadyWhileIdle,
@@ -71,6 +73,8 @@ pub const FLAWS: [Flaw; 8] = [
     Flaw::EndedHolds,
     Flaw::JobHolds,
     Flaw::JobWaits,
+    Flaw::CountOver,
+    Flaw::MarkWhileIdle,
 ];
 
 /// Gates with holders; who may hold, and how many, depends on the place.
@@ -86,9 +90,7 @@ fn hold(rng: &mut Rng, state: &mut State, places: &[Place], flaw: Option<Flaw>) 
         },
     };
     let mut order: Vec<usize> = (0..state.made).collect();
-    for at in (1..order.len()).rev() {
-        order.swap(at, rng.index(at + 1));
-    }
+    rng.shuffle(&mut order);
     for gate in order {
         if rng.percent(35) {
             continue;
@@ -185,7 +187,7 @@ fn settle(rng: &mut Rng, state: &mut State, number: u8, place: Place, flaw: Opti
 /// Where each process is, before gates are given.
 fn places(rng: &mut Rng, created: usize, flaw: Option<Flaw>) -> Vec<Place> {
     let idles = flaw == Some(Flaw::ReadyWhileIdle);
-    let somebody_runs = !idles && rng.percent(93);
+    let somebody_runs = !idles && flaw != Some(Flaw::MarkWhileIdle) && rng.percent(93);
     let place = |rng: &mut Rng| match rng.below(16) {
         0..=3 if somebody_runs || idles => Place::Ready,
         0..=3 => Place::Clock,
@@ -206,10 +208,17 @@ fn places(rng: &mut Rng, created: usize, flaw: Option<Flaw>) -> Vec<Place> {
 /// Every process goes to its place, in any order.
 fn settle_all(rng: &mut Rng, state: &mut State, places: &[Place], flaw: Option<Flaw>) {
     let mut order: Vec<u8> = (0..places.len() as u8).collect();
-    for at in (1..order.len()).rev() {
-        order.swap(at, rng.index(at + 1));
-    }
+    rng.shuffle(&mut order);
     order.into_iter().for_each(|number| settle(rng, state, number, places[usize::from(number)], flaw));
+}
+
+/// The count, near its end, and a mark of who runs.
+fn turns(rng: &mut Rng, state: &mut State, flaw: Option<Flaw>) {
+    state.count = match flaw {
+        Some(Flaw::CountOver) => rng.pick(&[9, 10, 255]),
+        _ => rng.pick(&[0, 0, 1, 5, 7, 7, 8, 8, 8]),
+    };
+    state.mark = flaw == Some(Flaw::MarkWhileIdle) || state.running.is_some() && rng.percent(35);
 }
 
 /// A sound state, or one with the flaw.
@@ -229,6 +238,7 @@ pub fn state(rng: &mut Rng, length: u16, flaw: Option<Flaw>) -> State {
     hold(rng, &mut state, &places, flaw);
     state.running = places.iter().position(|&place| place == Place::Running).map(|number| number as u8);
     settle_all(rng, &mut state, &places, flaw);
+    turns(rng, &mut state, flaw);
     state.fraction = rng.pick(&[0, 10, 5000, 9_980, 9_990, 9_990]);
     state.seconds = rng.pick(&[0, 1, 77, 32_766, 32_767, 32_767]);
     state.stop_line = rng.below(3) as u16;

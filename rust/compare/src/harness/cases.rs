@@ -1,7 +1,7 @@
-//! What a case plays: images, programs, random code, single instructions.
+//! What a case plays: images, programs, random code, selections, single instructions.
 
 use super::world::{Difference, Lent, Offer, World, SLACK};
-use crate::gen::{edgy, focus, images, mutate, programs};
+use crate::gen::{edgy, focus, images, mutate, programs, turns};
 use crate::rng::Rng;
 use model::image::{self, Header};
 use model::state::{COMMON, DEVICES, MAX_LENGTH, PRIVATE};
@@ -31,6 +31,7 @@ pub fn play(world: &mut World, rng: &mut Rng, pool: &Pool, case: u64) -> Result<
         0 => ("images", images(world, rng)),
         1..=7 => ("program", program(world, rng)),
         8..=9 => ("random code", random_code(world, rng)),
+        10 => ("selections", selections(world, rng, pool)),
         _ => ("single instructions", scenes(world, rng, pool)),
     };
     played.map_err(|difference| (kind, difference))
@@ -45,7 +46,8 @@ fn endless(world: &mut World) -> Played {
 /// A length near the right one, or far from it.
 fn near(rng: &mut Rng, right: usize) -> usize {
     match rng.below(4) {
-        0 => right.saturating_sub(1),
+        // Of the state, two less are the words of layout version 1.
+        0 => right.saturating_sub(rng.range(1, 2) as usize),
         1 => right + 1 + rng.index(SLACK),
         2 => 0,
         _ => rng.index(right + 1),
@@ -135,6 +137,34 @@ fn random_code(world: &mut World, rng: &mut Rng) -> Played {
     let header = Header { edition: 1, length: length as u16, devices: rng.below(32) as u16, variables: 16 };
     load(world, header, &code)?;
     walk(world, rng, 40)
+}
+
+/// Offers of one instruction or event each, so that every selection is seen.
+fn selections(world: &mut World, rng: &mut Rng, pool: &Pool) -> Played {
+    world.set_stores(&pool.common, &pool.private);
+    let turns::Turns { code, state, offers, hurry } = turns::turns(rng);
+    world.story = format!("a state made for selections, code {code:?}");
+    world.set_code(&code);
+    world.set_state(&words::encode(&state));
+    for _ in 0..offers {
+        if world.is_stopped() {
+            return Ok(());
+        }
+        let hurried = mutate::slice(world.state(), 190).filter(|_| rng.percent(hurry));
+        let offer = match (hurried, rng.below(12)) {
+            (Some(change), _) => {
+                world.change_state(&[change]);
+                Offer::Tick
+            }
+            (None, 0..=6) => Offer::Step,
+            (None, 7) => Offer::Run(1),
+            (None, 8) => Offer::Bell,
+            (None, 9) => Offer::Tick,
+            _ => Offer::Done(likely_busy(world, rng), 0, 0),
+        };
+        world.offer(&offer)?;
+    }
+    Ok(())
 }
 
 fn scenes(world: &mut World, rng: &mut Rng, pool: &Pool) -> Played {

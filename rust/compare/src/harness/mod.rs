@@ -2,4 +2,5 @@
 
 pub mod cases;
 pub mod session;
+pub mod watch;
 pub mod world;

@@ -1,6 +1,7 @@
 //! Two machines side by side: each offer goes to both, and all that either
 //! was lent is compared afterwards.
 
+use super::watch::Watcher;
 use crate::link::Library;
 use model::image::Header;
 use model::state::{COMMON, PRIVATE};
@@ -121,6 +122,7 @@ pub struct World {
     library: Box<dyn Library>,
     ours: Side,
     theirs: Side,
+    watcher: Watcher,
     /// Instructions that the model counted.
     pub steps: u64,
     pub offers: u64,
@@ -130,10 +132,11 @@ pub struct World {
 
 impl World {
     pub fn new(model: Model, library: Box<dyn Library>) -> Self {
-        World { model, library, ours: Side::new(), theirs: Side::new(), steps: 0, offers: 0, story: String::new() }
+        let (ours, theirs, watcher) = (Side::new(), Side::new(), Watcher::default());
+        World { model, library, ours, theirs, watcher, steps: 0, offers: 0, story: String::new() }
     }
 
-    /// The library's 820 words.
+    /// The library's 822 words.
     pub fn state(&self) -> &[u16] {
         self.theirs.words()
     }
@@ -230,7 +233,9 @@ impl World {
         }
         let keeps_words = number & 0xFF != 0 || offer.only_looks();
         let kept = !keeps_words || before == *self.theirs.words();
-        if expected == number && kept && self.is_alike() {
+        let alike = expected == number && kept && self.is_alike();
+        let watched = if alike { self.watch(offer, &before, number) } else { Ok(()) };
+        if alike && watched.is_ok() {
             return Ok(number);
         }
         let mut differences = vec![
@@ -238,8 +243,26 @@ impl World {
             format!("before it: {}", self.story),
             format!("number: model {expected:#x}, library {number:#x}"),
         ];
-        self.name_differences(&mut differences, &before, keeps_words);
+        match watched {
+            Err(broken) => differences.push(format!("the library's selections: {broken}")),
+            Ok(()) => self.name_differences(&mut differences, &before, keeps_words),
+        }
         Err(Difference(differences))
+    }
+
+    /// The library's own words, where the offer was taken: of several instructions at once no selection can be told.
+    fn watch(&mut self, offer: &Offer, before: &[u16; WORDS], number: u64) -> Result<(), String> {
+        let single = match offer {
+            _ if number & 0xFF != 0 || offer.only_looks() => return Ok(()),
+            Offer::Load(_) => false,
+            Offer::Run(_) => number >> 32 <= 1,
+            _ => true,
+        };
+        if single {
+            return self.watcher.watch(before, self.theirs.words(), &mut self.model.tally);
+        }
+        self.watcher.start_anew();
+        Ok(())
     }
 
     fn is_alike(&self) -> bool {

@@ -66,9 +66,18 @@ shared-slice-read-t29 c = search needs
 shared-slice-read-t31 : tie.Need-shared-slice-read-t31
 shared-slice-read-t31 c = search needs
 
+shared-slice-read-t33 : tie.Need-shared-slice-read-t33
+shared-slice-read-t33 c = search needs
+
+cast-t34 : tie.Need-cast-t34
+cast-t34 c = record { fits = byte-at (c .before .before .before .before .before .before .before .before .before .before .before .before .before .before .before .before .before .before .args .words .now) 820 1 0 (c .before .before .before .before .before .before .before .before .before .before .before .before .before .before .before .before .before .before .pre .count) (omega arith) }
+
+shared-slice-read-t36 : tie.Need-shared-slice-read-t36
+shared-slice-read-t36 c = search needs
+
 returns : tie.Need-returns
 unfolding unpacked
-returns c = rw (c .before .before .before .before .before .before .before .before .before .before .before .before .before .before .before .processes .ensures, c .before .before .before .before .before .before .before .before .before .before .before .before .before .before .gates .ensures, c .before .before .before .before .before .before .before .before .before .before .before .before .before .ready .ensures, c .before .before .before .before .before .before .before .before .before .before .before .before .queue .ensures, c .before .before .before .before .before .before .before .before .before .before .before .queue2 .ensures, c .before .before .before .before .before .before .before .before .before .before .devices .ensures)
+returns c = rw (c .before .before .before .before .before .before .before .before .before .before .before .before .before .before .before .before .before .processes .ensures, c .before .before .before .before .before .before .before .before .before .before .before .before .before .before .before .before .gates .ensures, c .before .before .before .before .before .before .before .before .before .before .before .before .before .before .before .ready .ensures, c .before .before .before .before .before .before .before .before .before .before .before .before .before .before .queue .ensures, c .before .before .before .before .before .before .before .before .before .before .before .before .before .queue2 .ensures, c .before .before .before .before .before .before .before .before .before .before .before .before .devices .ensures)
 
 pub machine-spec : {M : Type 1} → statement M
 machine-spec =
@@ -94,4 +103,7 @@ machine-spec =
     shared-slice-read-t27
     shared-slice-read-t29
     shared-slice-read-t31
+    shared-slice-read-t33
+    cast-t34
+    shared-slice-read-t36
     returns)

@@ -1,5 +1,5 @@
 -- By the number of words, then part by part.
-use Rattle.layout.specs.Layout.{fits}
+use Rattle.layout.specs.Layout.{fits, stateWords}
 use borrow.Author.Needs.{needs}
 use borrow.Author.Tests.{eq-eqb, ne-eqb}
 use lib.ListN.{length}
@@ -8,7 +8,7 @@ use Rattle.layout.proofs.test.fit.Tie as tie
 
 returns : tie.Need-returns
 unfolding fits
-returns c = rw (ne-eqb (length (c .before .before .args .words .now)) 820 (c .if1 .taken))
+returns c = rw (ne-eqb (length (c .before .before .args .words .now)) stateWords (c .if1 .taken))
 
 processes-fit-requires : tie.Need-processes-fit-requires
 processes-fit-requires c κs = search needs
@@ -22,9 +22,15 @@ devices-fit-requires c κs = search needs
 are-bytes-requires-2 : tie.Need-are-bytes-requires-2
 are-bytes-requires-2 c κs = search needs
 
+are-bytes-requires-3 : tie.Need-are-bytes-requires-3
+are-bytes-requires-3 c κs = search needs
+
+shared-slice-read-result : tie.Need-shared-slice-read-result
+shared-slice-read-result c = search needs
+
 returns-2 : tie.Need-returns-2
 unfolding fits
-returns-2 c = rw (eq-eqb (length (c .before .before .before .before .before .before .args .words .now)) 820 (c .before .before .before .before .if1 .left), c .before .before .before .processes-fit .ensures, c .before .before .are-bytes .ensures, c .before .devices-fit .ensures, c .are-bytes2 .ensures)
+returns-2 c = rw (eq-eqb (length (c .before .before .before .before .before .before .before .before .args .words .now)) stateWords (c .before .before .before .before .before .before .if1 .left), c .before .before .before .before .before .processes-fit .ensures, c .before .before .before .before .are-bytes .ensures, c .before .before .before .devices-fit .ensures, c .before .before .are-bytes2 .ensures, c .before .are-bytes3 .ensures)
 
 pub fit-spec : {M : Type 1} → statement M
 fit-spec =
@@ -35,4 +41,6 @@ fit-spec =
     are-bytes-requires
     devices-fit-requires
     are-bytes-requires-2
+    are-bytes-requires-3
+    shared-slice-read-result
     returns-2)

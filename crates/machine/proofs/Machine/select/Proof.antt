@@ -11,7 +11,7 @@ selected-requires c κs = search needs
 
 returns : tie.Need-returns
 returns c =
-    c .before .selected .ensures (c .before .before .before .before .before .args .self) refl refl (λ l. sym (c .before .before .before .class-of .ensures))
+    c .before .selected .ensures (c .before .before .before .before .before .args .self) refl refl (λ l. sym (c .before .before .before .class-of .ensures)) refl refl
 
 pub select-spec : {M : Type 1} → statement M
 select-spec = tie.close (tie.spec class-of-requires selected-requires returns)

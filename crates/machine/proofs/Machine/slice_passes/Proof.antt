@@ -1,12 +1,14 @@
 use mathlib.Core.Path.{_∙_, ap, refl}
+use mathlib.Core.Bool.{_&&_, not, and-false}
 use Prim.Native.Nat.{_<_}
+use lib.Dec.{leb}
 use native.Mathlib.Omega.{arith}
 use lib.ListN.{length, length-map}
 use lib.Seq.{getD-set-same}
 use borrow.Author.Tests.{le-leb, lt-leb}
 use Rattle.machine.specs.declared.Process.{Process}
-use Rattle.machine.specs.State.{noProcess, proc, withProcess}
-use Rattle.machine.proofs.Laws.{slice-over}
+use Rattle.machine.specs.State.{noProcess, proc, counted, withProcess}
+use Rattle.machine.proofs.Laws.{mark-over}
 use borrow.Author.Needs.{needs}
 use Rattle.machine.proofs.Machine.slice_passes.Statement.{statement}
 use Rattle.machine.proofs.Machine.slice_passes.Tie as tie
@@ -38,7 +40,10 @@ returns c =
     let a = c .before .before .before .before .aged .ensures in
     let long = simp length-map at (c .before .before .before .before .before .before .before .good .0 .1 .1 .0 .1 .0 .1) in
     let same = ap (λ (p : Process). p .class) (getD-set-same (m .processes) h (c .before .before .before .before .aged .result) noProcess (omega (arith, long, l))) in
-    rw (lt-leb _ _ l) (c .before .yielded .ensures (withProcess m h (c .before .before .before .before .aged .result)) refl refl same ∙ rw a (slice-over m h))
+    let over = leb 190 ((proc m h) .slice) in
+    rw (lt-leb _ _ l)
+    (c .before .yielded .ensures (withProcess (counted m (m .count) (m .mark && not over)) h (c .before .before .before .before .aged .result)) refl refl same (λ e. rw e (and-false (m .mark)))
+    ∙ rw a (mark-over m h over refl))
 
 returns-2 : tie.Need-returns-2
 returns-2 c =

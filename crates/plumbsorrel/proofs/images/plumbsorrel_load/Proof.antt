@@ -15,6 +15,7 @@ use Rattle.plumbsorrel.proofs.number.of_check.Reads as of-check-reads
 use Rattle.plumbsorrel.proofs.number.of_reading.Reads as of-reading-reads
 use Rattle.run.proofs.check_load.Reads as check-load-reads
 use Rattle.run.proofs.set_up.Reads as set-up-reads
+use Rattle.layout.specs.Layout.{stateWords}
 
 -- src/images.rt:20:9
 check-load-requires : tie.Need-check-load-requires
@@ -61,11 +62,11 @@ set-up-requires c κs = search needs
 
 -- src/images.rt:29:21
 slice-relend-prefix-pack : tie.Need-slice-relend-prefix-pack
-slice-relend-prefix-pack c = size-fits (length (c .before .before .before .before .before .before .before .before .before .before .before .before .before .before .before .before .before .before .before .before .before .before .args .state .now)) 820 _ (rw (c .before .before .before .before .before .before .before .before .before .before .enum-told2 .given .1) at (c .before .before .before .before .before .before .before .before .before .before .before .before .check-room .ensures))
+slice-relend-prefix-pack c = size-fits (length (c .before .before .before .before .before .before .before .before .before .before .before .before .before .before .before .before .before .before .before .before .before .before .args .state .now)) stateWords _ (rw (c .before .before .before .before .before .before .before .before .before .before .enum-told2 .given .1) at (c .before .before .before .before .before .before .before .before .before .before .before .before .check-room .ensures))
 
 -- src/images.rt:29:21
 slice-aggregate-pack : tie.Need-slice-aggregate-pack
-slice-aggregate-pack c = sym (length-take-le 820 (c .before .before .before .before .before .before .before .before .before .before .before .before .before .before .before .before .before .before .before .before .before .before .before .args .state .now) (slice-relend-prefix-pack (c .before)))
+slice-aggregate-pack c = sym (length-take-le stateWords (c .before .before .before .before .before .before .before .before .before .before .before .before .before .before .before .before .before .before .before .before .before .before .before .args .state .now) (slice-relend-prefix-pack (c .before)))
 
 -- src/images.rt:29:5
 pack-requires : tie.Need-pack-requires
@@ -93,7 +94,7 @@ same-length-4 c = search needs
 
 -- src/images.rt:10:1
 returns-3 : tie.Need-returns-3
-returns-3 c = rw (c .of-reading2 .ensures) (L.load-leaves (c .before .before .before .before .before .before .before .before .before .before .before .before .before .before .before .before .before .before .before .before .before .before .before .before .before .before .before .args .image .now) (c .before .before .before .before .before .before .before .before .before .before .before .before .before .before .before .before .before .before .before .before .before .before .before .before .before .before .before .args .code .now) (c .before .before .before .before .before .before .before .before .before .before .before .before .before .before .before .before .before .before .before .before .before .before .before .before .before .before .before .args .common .now) (c .before .before .before .before .before .before .before .before .before .before .before .before .before .before .before .before .before .before .before .before .before .before .before .before .before .before .before .args .private .now) (c .before .before .before .before .before .before .before .before .before .before .before .before .before .before .before .before .before .before .before .before .before .before .before .before .before .before .before .args .state .now) (c .before .before .before .before .before .before .before .before .before .before .before .before .before .before .before .before .before .before .before .before .before .check-load .result) (c .before .before .before .before .before .before .before .before .before .before .before .before .before .before .before .before .before .before .before .before .before .check-load .ensures) _ (c .before .before .before .before .before .before .before .before .before .before .before .before .before .before .before .before .before .before .before .reading .given .1) (c .before .before .before .before .before .before .before .before .before .before .before .before .before .before .before .before .before .check-room .result) (c .before .before .before .before .before .before .before .before .before .before .before .before .before .before .before .before .before .check-room .ensures) (c .before .before .before .before .before .before .before .before .before .before .before .before .before .before .before .enum-told2 .given .1) _ _ _ _ (c .before .before .before .before .before .before .before .before .before .before .before .set-up .ensures) _ (L.packed-first _ (c .before .before .before .before .before .before .before .before .before .before .before .before .before .before .before .before .before .before .before .before .before .before .before .before .before .before .before .args .state .now) _ (size-fits (length (c .before .before .before .before .before .before .before .before .before .before .before .before .before .before .before .before .before .before .before .before .before .before .before .before .before .before .before .args .state .now)) 820 _ (rw (c .before .before .before .before .before .before .before .before .before .before .before .before .before .before .before .enum-told2 .given .1) at (c .before .before .before .before .before .before .before .before .before .before .before .before .before .before .before .before .before .check-room .ensures))) (c .before .before .before .pack .ensures .1)))
+returns-3 c = rw (c .of-reading2 .ensures) (L.load-leaves (c .before .before .before .before .before .before .before .before .before .before .before .before .before .before .before .before .before .before .before .before .before .before .before .before .before .before .before .args .image .now) (c .before .before .before .before .before .before .before .before .before .before .before .before .before .before .before .before .before .before .before .before .before .before .before .before .before .before .before .args .code .now) (c .before .before .before .before .before .before .before .before .before .before .before .before .before .before .before .before .before .before .before .before .before .before .before .before .before .before .before .args .common .now) (c .before .before .before .before .before .before .before .before .before .before .before .before .before .before .before .before .before .before .before .before .before .before .before .before .before .before .before .args .private .now) (c .before .before .before .before .before .before .before .before .before .before .before .before .before .before .before .before .before .before .before .before .before .before .before .before .before .before .before .args .state .now) (c .before .before .before .before .before .before .before .before .before .before .before .before .before .before .before .before .before .before .before .before .before .check-load .result) (c .before .before .before .before .before .before .before .before .before .before .before .before .before .before .before .before .before .before .before .before .before .check-load .ensures) _ (c .before .before .before .before .before .before .before .before .before .before .before .before .before .before .before .before .before .before .before .reading .given .1) (c .before .before .before .before .before .before .before .before .before .before .before .before .before .before .before .before .before .check-room .result) (c .before .before .before .before .before .before .before .before .before .before .before .before .before .before .before .before .before .check-room .ensures) (c .before .before .before .before .before .before .before .before .before .before .before .before .before .before .before .enum-told2 .given .1) _ _ _ _ (c .before .before .before .before .before .before .before .before .before .before .before .set-up .ensures) _ (L.packed-first _ (c .before .before .before .before .before .before .before .before .before .before .before .before .before .before .before .before .before .before .before .before .before .before .before .before .before .before .before .args .state .now) _ (size-fits (length (c .before .before .before .before .before .before .before .before .before .before .before .before .before .before .before .before .before .before .before .before .before .before .before .before .before .before .before .args .state .now)) stateWords _ (rw (c .before .before .before .before .before .before .before .before .before .before .before .before .before .before .before .enum-told2 .given .1) at (c .before .before .before .before .before .before .before .before .before .before .before .before .before .before .before .before .before .check-room .ensures))) (c .before .before .before .pack .ensures .1)))
 
 pub plumbsorrel-load-spec : {M : Type 1} → statement M
 plumbsorrel-load-spec =

@@ -1,5 +1,5 @@
 use mathlib.Core.Path.{refl}
-use Rattle.machine.proofs.Laws.{over-all}
+use Rattle.machine.proofs.Laws.{unless-all}
 use borrow.Author.Needs.{needs}
 use Rattle.run.proofs.turn.displaces.Statement.{statement}
 use Rattle.run.proofs.turn.displaces.Tie as tie
@@ -12,7 +12,7 @@ is-better-ready-requires c κs = search needs
 
 returns : tie.Need-returns
 returns c =
-    λ m r k. rw (c .before .is-stopped .ensures, c .is-better-ready .ensures m r, over-all m _ refl _ k)
+    λ m r k t. rw (c .before .is-stopped .ensures, c .is-better-ready .ensures m r, unless-all m _ refl _ _ k t)
 
 pub displaces-spec : {M : Type 1} → statement M
 displaces-spec = tie.close (tie.spec is-stopped-requires is-better-ready-requires returns)

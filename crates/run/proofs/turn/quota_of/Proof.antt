@@ -1,26 +1,28 @@
-use mathlib.Core.Path.{_≡_, refl, sym, ap, _∙_}
-use mathlib.Core.Bool.{true, false, _&&_}
-use Prim.Native.Nat.{ℕ}
+use mathlib.Core.Path.{_≡_, refl, sym, _∙_}
+use mathlib.Core.Bool.{Bool, _&&_, not}
+use Prim.Native.Nat.{ℕ, _<_}
 use lib.Dec.{ltb}
+use Rattle.machine.specs.declared.Machine.{Machine}
+use Rattle.machine.specs.State.{nobody, proc}
 use Rattle.machine.specs.Classes.{best, selects}
-use Rattle.machine.proofs.Laws.{over-running}
+use Rattle.machine.proofs.Laws.{unless-marked}
 use borrow.Author.Needs.{needs}
 use Rattle.run.proofs.turn.quota_of.Statement.{statement}
 use Rattle.run.proofs.turn.quota_of.Tie as tie
-use Rattle.run.proofs.turn.quota_of.Reads as reads
-use Rattle.run.proofs.turn.quota_of.Lts as lts
 
--- src/turn.rt:108:9
 is-better-ready-requires : tie.Need-is-better-ready-requires
 is-better-ready-requires c κs = search needs
 
--- src/turn.rt:105:1
-returns : tie.Need-returns
-returns c = λ m e r k. let h = c .before .is-better-ready .ensures m e in let z : selects m ≡ true = sym (over-running m (best m) refl r) ∙ ap (λ (n : ℕ). ltb (best m) n && ltb (best m) 3) k ∙ sym h ∙ c .if1 .taken in rw z
+-- told by the class and the mark
+told : (m : Machine) (k : ℕ) (t b : Bool) → m .running < nobody → (proc m (m .running)) .class ≡ k → m .mark ≡ t → b ≡ (ltb (best m) k && ltb (best m) 3)
+    → selects m ≡ (b && not t)
+told m k t b l own mark h = rw (h, ← own, ← mark) (sym (unless-marked m (best m) refl l))
 
--- src/turn.rt:105:1
+returns : tie.Need-returns
+returns c = λ m e r k t. rw (told m _ _ _ r k t (c .before .is-better-ready .ensures m e) ∙ c .if1 .taken)
+
 returns-2 : tie.Need-returns-2
-returns-2 c = λ m e r k. let h = c .before .is-better-ready .ensures m e in let z : selects m ≡ false = sym (over-running m (best m) refl r) ∙ ap (λ (n : ℕ). ltb (best m) n && ltb (best m) 3) k ∙ sym h ∙ c .if1 .left in rw z
+returns-2 c = λ m e r k t. rw (told m _ _ _ r k t (c .before .is-better-ready .ensures m e) ∙ c .if1 .left)
 
 pub quota-of-spec : {M : Type 1} → statement M
 quota-of-spec = tie.close (tie.spec is-better-ready-requires returns returns-2)

@@ -63,7 +63,7 @@ quota-of-requires c κs =
 
 turn-requires : tie.Need-turn-requires Inv-loop μ-loop
 turn-requires c κs =
-    record { machine = c .before .before .before .before .before .before .before .before .before .before .loop .m; budget = c .before .before .before .before .before .before .before .before .before .before .before .before .before .before .args .budget - c .before .before .before .before .before .before .before .before .before .before .loop .count; told = refl; given = c .before .before .before .before .quota-of .ensures (c .before .before .before .before .before .before .before .before .before .before .loop .m) refl (c .before .before .before .before .before .before .before .before .if1 .left) refl; some = omega arith; most = omega (arith, c .before .before .before .before .before .before .before .before .before .before .before .before .before .before .fits); accepted = c .before .before .before .before .before .before .before .before .before .before .loop .inv .0 .1; runs = c .before .before .before .before .before .before .before .before .if1 .left }
+    record { machine = c .before .before .before .before .before .before .before .before .before .before .loop .m; budget = c .before .before .before .before .before .before .before .before .before .before .before .before .before .before .args .budget - c .before .before .before .before .before .before .before .before .before .before .loop .count; told = refl; given = c .before .before .before .before .quota-of .ensures (c .before .before .before .before .before .before .before .before .before .before .loop .m) refl (c .before .before .before .before .before .before .before .before .if1 .left) refl refl; some = omega arith; most = omega (arith, c .before .before .before .before .before .before .before .before .before .before .before .before .before .before .fits); accepted = c .before .before .before .before .before .before .before .before .before .before .loop .inv .0 .1; runs = c .before .before .before .before .before .before .before .before .if1 .left }
 
 cast-after : tie.Need-cast-after Inv-loop μ-loop
 cast-after c =
@@ -84,7 +84,7 @@ perform-requires c κs =
 add-count : tie.Need-add-count Inv-loop μ-loop
 unfolding withProcess
 add-count c =
-    let quota = c .before .before .before .before .before .before .before .before .before .before .before .before .before .quota-of .ensures (c .before .before .before .before .before .before .before .before .before .before .before .before .before .before .before .before .before .before .before .loop .m) refl (c .before .before .before .before .before .before .before .before .before .before .before .before .before .before .before .before .before .if1 .left) refl in
+    let quota = c .before .before .before .before .before .before .before .before .before .before .before .before .before .quota-of .ensures (c .before .before .before .before .before .before .before .before .before .before .before .before .before .before .before .before .before .before .before .loop .m) refl (c .before .before .before .before .before .before .before .before .before .before .before .before .before .before .before .before .before .if1 .left) refl refl in
     let turned = c .before .before .before .before .before .before .before .before .turn .ensures (c .before .before .before .before .before .before .before .before .before .before .before .before .before .before .before .before .before .before .before .loop .m) (c .before .before .before .before .before .before .before .before .before .before .before .before .before .before .before .before .before .before .before .before .before .before .before .args .budget - c .before .before .before .before .before .before .before .before .before .before .before .before .before .before .before .before .before .before .before .loop .count) refl refl refl quota (omega (arith, c .before .before .before .before .before .before .before .before .before .before .before .before .before .before .before .before .before .before .loop-test .taken)) (c .before .before .before .before .before .before .before .before .before .before .before .before .before .before .before .before .before .before .before .loop .inv .0 .1) in
     let turned = rw quota at turned in
     let k = L.counts (c .before .before .before .before .before .before .before .before .before .before .before .before .before .before .before .before .before .before .before .before .before .before .before .args .code .now) (c .before .before .before .before .before .before .before .before .before .before .before .before .before .before .before .before .before .before .before .before .before .before .before .args .budget) _ (c .before .before .before .before .before .before .before .before .before .before .before .before .before .before .before .before .before .before .before .loop .count) (c .before .before .before .before .before .before .before .before .before .before .before .before .before .before .before .before .before .before .before .loop .m) _ _ (c .before .before .before .before .before .before .before .before .before .before .before .before .before .before .before .before .before .before .before .loop .inv .0) (c .before .before .before .before .before .before .before .before .before .before .before .before .before .before .before .before .before .before .loop-test .taken) (c .before .before .before .before .before .before .before .before .before .before .before .before .before .before .before .before .before .if1 .left) _ turned in
@@ -145,16 +145,16 @@ same-length-4 c =
 returns-2 : tie.Need-returns-2 Inv-loop μ-loop
 unfolding withProcess
 returns-2 c =
-    let quota = c .before .before .before .before .before .before .before .before .before .before .before .before .before .before .before .before .before .before .before .before .before .quota-of .ensures (c .before .before .before .before .before .before .before .before .before .before .before .before .before .before .before .before .before .before .before .before .before .before .before .before .before .before .before .loop .m) refl (c .before .before .before .before .before .before .before .before .before .before .before .before .before .before .before .before .before .before .before .before .before .before .before .before .before .if1 .left) refl in
+    let quota = c .before .before .before .before .before .before .before .before .before .before .before .before .before .before .before .before .before .before .before .before .before .quota-of .ensures (c .before .before .before .before .before .before .before .before .before .before .before .before .before .before .before .before .before .before .before .before .before .before .before .before .before .before .before .loop .m) refl (c .before .before .before .before .before .before .before .before .before .before .before .before .before .before .before .before .before .before .before .before .before .before .before .before .before .if1 .left) refl refl in
     let turned = c .before .before .before .before .before .before .before .before .before .before .before .before .before .before .before .before .turn .ensures (c .before .before .before .before .before .before .before .before .before .before .before .before .before .before .before .before .before .before .before .before .before .before .before .before .before .before .before .loop .m) (c .before .before .before .before .before .before .before .before .before .before .before .before .before .before .before .before .before .before .before .before .before .before .before .before .before .before .before .before .before .before .before .args .budget - c .before .before .before .before .before .before .before .before .before .before .before .before .before .before .before .before .before .before .before .before .before .before .before .before .before .before .before .loop .count) refl refl refl quota (omega (arith, c .before .before .before .before .before .before .before .before .before .before .before .before .before .before .before .before .before .before .before .before .before .before .before .before .before .before .loop-test .taken)) (c .before .before .before .before .before .before .before .before .before .before .before .before .before .before .before .before .before .before .before .before .before .before .before .before .before .before .before .loop .inv .0 .1) in
     let turned = rw quota at turned in
-    let e = L.ran-on (c .before .before .before .before .before .before .before .before .before .before .before .before .before .before .before .before .before .before .before .before .before .before .before .before .before .before .before .loop .m) (c .before .before .before .before .before .before .before .before .before .before .before .before .before .before .before .before .turn .result .decision) _ _ _ _ turned (c .before .before .before .before .before .before .before .ended-of .result) (c .before .before .before .before .before .before .before .ended-of .ensures) (c .before .before .before .before .before .before .before .before .before .perform .result) (c .before .before .before .before .before .before .before .before .before .perform .ensures) (c .before .before .before .before .displaces .result) (c .before .before .before .before .displaces .ensures (c .before .before .before .before .before .before .before .before .before .perform .result) refl (class-now (c .before .before .before .before .before .before))) (c .before .before .before .if3 .m) (machine-now (c .before .before .before)) in
+    let e = L.ran-on (c .before .before .before .before .before .before .before .before .before .before .before .before .before .before .before .before .before .before .before .before .before .before .before .before .before .before .before .loop .m) (c .before .before .before .before .before .before .before .before .before .before .before .before .before .before .before .before .turn .result .decision) _ _ _ _ turned (c .before .before .before .before .before .before .before .ended-of .result) (c .before .before .before .before .before .before .before .ended-of .ensures) (c .before .before .before .before .before .before .before .before .before .perform .result) (c .before .before .before .before .before .before .before .before .before .perform .ensures) (c .before .before .before .before .displaces .result) (c .before .before .before .before .displaces .ensures (c .before .before .before .before .before .before .before .before .before .perform .result) refl (class-now (c .before .before .before .before .before .before)) refl) (c .before .before .before .if3 .m) (machine-now (c .before .before .before)) in
     rw (c .so-far2 .ensures) (L.stops (c .before .before .before .before .before .before .before .before .before .before .before .before .before .before .before .before .before .before .before .before .before .before .before .before .before .before .before .before .before .before .before .args .code .now) (c .before .before .before .before .before .before .before .before .before .before .before .before .before .before .before .before .before .before .before .before .before .before .before .before .before .before .before .before .before .before .before .args .budget) _ (c .before .before .before .before .before .before .before .before .before .before .before .before .before .before .before .before .before .before .before .before .before .before .before .before .before .before .before .loop .count) (c .before .before .before .before .before .before .before .before .before .before .before .before .before .before .before .before .before .before .before .before .before .before .before .before .before .before .before .loop .m) _ _ (c .before .before .before .before .before .before .before .before .before .before .before .before .before .before .before .before .before .before .before .before .before .before .before .before .before .before .before .loop .inv .0) (c .before .before .before .before .before .before .before .before .before .before .before .before .before .before .before .before .before .before .before .before .before .before .before .before .before .before .loop-test .taken) (c .before .before .before .before .before .before .before .before .before .before .before .before .before .before .before .before .before .before .before .before .before .before .before .before .before .if1 .left) (record { machine = c .before .before .before .if3 .m; ended = c .before .before .before .before .before .before .before .ended-of .result; count = c .before .before .before .before .before .before .before .before .before .before .before .before .before .before .before .before .turn .result .count }) _ _ e (sym (c .before .before .is-onward .ensures) ∙ not-true _ (c .before .if4 .taken)))
 
 loop-less : tie.Need-loop-less Inv-loop μ-loop
 unfolding withProcess
 loop-less c =
-    let quota = c .before .before .before .before .before .before .before .before .before .before .before .before .before .before .before .before .before .before .before .before .quota-of .ensures (c .before .before .before .before .before .before .before .before .before .before .before .before .before .before .before .before .before .before .before .before .before .before .before .before .before .before .loop .m) refl (c .before .before .before .before .before .before .before .before .before .before .before .before .before .before .before .before .before .before .before .before .before .before .before .before .if1 .left) refl in
+    let quota = c .before .before .before .before .before .before .before .before .before .before .before .before .before .before .before .before .before .before .before .before .quota-of .ensures (c .before .before .before .before .before .before .before .before .before .before .before .before .before .before .before .before .before .before .before .before .before .before .before .before .before .before .loop .m) refl (c .before .before .before .before .before .before .before .before .before .before .before .before .before .before .before .before .before .before .before .before .before .before .before .before .if1 .left) refl refl in
     let turned = c .before .before .before .before .before .before .before .before .before .before .before .before .before .before .before .turn .ensures (c .before .before .before .before .before .before .before .before .before .before .before .before .before .before .before .before .before .before .before .before .before .before .before .before .before .before .loop .m) (c .before .before .before .before .before .before .before .before .before .before .before .before .before .before .before .before .before .before .before .before .before .before .before .before .before .before .before .before .before .before .args .budget - c .before .before .before .before .before .before .before .before .before .before .before .before .before .before .before .before .before .before .before .before .before .before .before .before .before .before .loop .count) refl refl refl quota (omega (arith, c .before .before .before .before .before .before .before .before .before .before .before .before .before .before .before .before .before .before .before .before .before .before .before .before .before .loop-test .taken)) (c .before .before .before .before .before .before .before .before .before .before .before .before .before .before .before .before .before .before .before .before .before .before .before .before .before .before .loop .inv .0 .1) in
     let turned = rw quota at turned in
     let k = L.counts (c .before .before .before .before .before .before .before .before .before .before .before .before .before .before .before .before .before .before .before .before .before .before .before .before .before .before .before .before .before .before .args .code .now) (c .before .before .before .before .before .before .before .before .before .before .before .before .before .before .before .before .before .before .before .before .before .before .before .before .before .before .before .before .before .before .args .budget) _ (c .before .before .before .before .before .before .before .before .before .before .before .before .before .before .before .before .before .before .before .before .before .before .before .before .before .before .loop .count) (c .before .before .before .before .before .before .before .before .before .before .before .before .before .before .before .before .before .before .before .before .before .before .before .before .before .before .loop .m) _ _ (c .before .before .before .before .before .before .before .before .before .before .before .before .before .before .before .before .before .before .before .before .before .before .before .before .before .before .loop .inv .0) (c .before .before .before .before .before .before .before .before .before .before .before .before .before .before .before .before .before .before .before .before .before .before .before .before .before .loop-test .taken) (c .before .before .before .before .before .before .before .before .before .before .before .before .before .before .before .before .before .before .before .before .before .before .before .before .if1 .left) _ turned in
@@ -163,10 +163,10 @@ loop-less c =
 loop-again : tie.Need-loop-again Inv-loop μ-loop
 unfolding withProcess
 loop-again c =
-    let quota = c .before .before .before .before .before .before .before .before .before .before .before .before .before .before .before .before .before .before .before .before .quota-of .ensures (c .before .before .before .before .before .before .before .before .before .before .before .before .before .before .before .before .before .before .before .before .before .before .before .before .before .before .loop .m) refl (c .before .before .before .before .before .before .before .before .before .before .before .before .before .before .before .before .before .before .before .before .before .before .before .before .if1 .left) refl in
+    let quota = c .before .before .before .before .before .before .before .before .before .before .before .before .before .before .before .before .before .before .before .before .quota-of .ensures (c .before .before .before .before .before .before .before .before .before .before .before .before .before .before .before .before .before .before .before .before .before .before .before .before .before .before .loop .m) refl (c .before .before .before .before .before .before .before .before .before .before .before .before .before .before .before .before .before .before .before .before .before .before .before .before .if1 .left) refl refl in
     let turned = c .before .before .before .before .before .before .before .before .before .before .before .before .before .before .before .turn .ensures (c .before .before .before .before .before .before .before .before .before .before .before .before .before .before .before .before .before .before .before .before .before .before .before .before .before .before .loop .m) (c .before .before .before .before .before .before .before .before .before .before .before .before .before .before .before .before .before .before .before .before .before .before .before .before .before .before .before .before .before .before .args .budget - c .before .before .before .before .before .before .before .before .before .before .before .before .before .before .before .before .before .before .before .before .before .before .before .before .before .before .loop .count) refl refl refl quota (omega (arith, c .before .before .before .before .before .before .before .before .before .before .before .before .before .before .before .before .before .before .before .before .before .before .before .before .before .loop-test .taken)) (c .before .before .before .before .before .before .before .before .before .before .before .before .before .before .before .before .before .before .before .before .before .before .before .before .before .before .loop .inv .0 .1) in
     let turned = rw quota at turned in
-    let e = L.ran-on (c .before .before .before .before .before .before .before .before .before .before .before .before .before .before .before .before .before .before .before .before .before .before .before .before .before .before .loop .m) (c .before .before .before .before .before .before .before .before .before .before .before .before .before .before .before .turn .result .decision) _ _ _ _ turned (c .before .before .before .before .before .before .ended-of .result) (c .before .before .before .before .before .before .ended-of .ensures) (c .before .before .before .before .before .before .before .before .perform .result) (c .before .before .before .before .before .before .before .before .perform .ensures) (c .before .before .before .displaces .result) (c .before .before .before .displaces .ensures (c .before .before .before .before .before .before .before .before .perform .result) refl (class-now (c .before .before .before .before .before))) (c .before .before .if3 .m) (machine-now (c .before .before)) in
+    let e = L.ran-on (c .before .before .before .before .before .before .before .before .before .before .before .before .before .before .before .before .before .before .before .before .before .before .before .before .before .before .loop .m) (c .before .before .before .before .before .before .before .before .before .before .before .before .before .before .before .turn .result .decision) _ _ _ _ turned (c .before .before .before .before .before .before .ended-of .result) (c .before .before .before .before .before .before .ended-of .ensures) (c .before .before .before .before .before .before .before .before .perform .result) (c .before .before .before .before .before .before .before .before .perform .ensures) (c .before .before .before .displaces .result) (c .before .before .before .displaces .ensures (c .before .before .before .before .before .before .before .before .perform .result) refl (class-now (c .before .before .before .before .before)) refl) (c .before .before .if3 .m) (machine-now (c .before .before)) in
     (L.again (c .before .before .before .before .before .before .before .before .before .before .before .before .before .before .before .before .before .before .before .before .before .before .before .before .before .before .before .before .before .before .args .code .now) (c .before .before .before .before .before .before .before .before .before .before .before .before .before .before .before .before .before .before .before .before .before .before .before .before .before .before .before .before .before .before .args .budget) _ (c .before .before .before .before .before .before .before .before .before .before .before .before .before .before .before .before .before .before .before .before .before .before .before .before .before .before .loop .count) (c .before .before .before .before .before .before .before .before .before .before .before .before .before .before .before .before .before .before .before .before .before .before .before .before .before .before .loop .m) _ _ (c .before .before .before .before .before .before .before .before .before .before .before .before .before .before .before .before .before .before .before .before .before .before .before .before .before .before .loop .inv .0) (c .before .before .before .before .before .before .before .before .before .before .before .before .before .before .before .before .before .before .before .before .before .before .before .before .before .loop-test .taken) (c .before .before .before .before .before .before .before .before .before .before .before .before .before .before .before .before .before .before .before .before .before .before .before .before .if1 .left) (record { machine = c .before .before .if3 .m; ended = c .before .before .before .before .before .before .ended-of .result; count = c .before .before .before .before .before .before .before .before .before .before .before .before .before .before .before .turn .result .count }) _ _ e (sym (c .before .is-onward .ensures) ∙ not-false _ (c .if4 .left)), c .before .before .before .before .before .before .before .before .before .before .before .before .before .before .common .given ∙ c .before .before .before .before .before .before .before .before .before .before .before .before .before .before .before .before .before .before .before .before .before .before .before .before .before .before .loop .inv .1, c .before .before .before .before .before .before .before .before .before .before .before .before .private .given ∙ c .before .before .before .before .before .before .before .before .before .before .before .before .before .before .before .before .before .before .before .before .before .before .before .before .before .before .loop .inv .2)
 
 so-far-requires-3 : tie.Need-so-far-requires-3 Inv-loop μ-loop
