@@ -83,7 +83,7 @@ born m t v =
     (more (m .created) 10)
     (m .made)
 
--- "the parent goes to the tail of its class as before, a new child then always joins class 2, and a selection follows":
+-- W-212: "the parent goes to the tail of its class as before, a new child then always joins class 2, and a selection follows":
 -- it starts in class 2
 unfoldable pub createProcess : Machine → ℕ → ℕ → Machine
 createProcess m t v = wake (born (wake (setRunning m nobody) (m .running)) t v) (m .created)

@@ -43,7 +43,7 @@ best m = if (someReady m 0) 0 (if (someReady m 1) 1 (if (someReady m 2) 2 3))
 unfoldable pub start : Machine → ℕ → Machine
 start m c = setRunning (pull m c) (first (ready m c))
 
--- "after 8 of them the next selection, if class 2 is not empty, comes from it", and who is so taken has the mark
+-- W-212: "after 8 of them the next selection, if class 2 is not empty, comes from it", and who is so taken has the mark
 unfoldable pub due : Machine → Bool
 due m = leb 8 (m .count) && someReady m 2
 
@@ -51,7 +51,7 @@ due m = leb 8 (m .count) && someReady m 2
 unfoldable pub source : Machine → ℕ
 source m = if (due m) 2 (best m)
 
--- "Count selections made from class 0 or 1 while class 2 is not empty; (..) the count is 0 after any selection from class 2"
+-- W-212: "Count selections made from class 0 or 1 while class 2 is not empty; (..) the count is 0 after any selection from class 2"
 unfoldable pub countFrom : Machine → ℕ → ℕ
 countFrom m c = if (eqb c 2) 0 (if (someReady m 2) (more (m .count) 8) (m .count))
 
@@ -65,7 +65,7 @@ aside m = if (leb nobody (m .running)) m (wake (setRunning m nobody) (m .running
 
 -- "a running process with a strictly better class ready goes to the tail of its own and the head of the best class runs;
 -- with nobody running likewise; with nobody ready the machine idles"
--- "A strictly better class no longer displaces a process so selected"
+-- W-212: "A strictly better class no longer displaces a process so selected"
 unfoldable pub selects : Machine → Bool
 selects m =
     if (leb nobody (m .running)) (ltb (best m) 3)

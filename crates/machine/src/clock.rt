@@ -44,7 +44,8 @@ struct Seats {
 
 // At its slice's end, the process goes to the tail of its class if one of its class or better is ready.
 fn yielded(ready: [Queue; 3], running: u8, h: u8, class: u8, over: bool) -> Seats
-    ensures { λ r. ⌜ ((m : Machine) → m .ready ≡ ready → m .running ≡ running → (proc m h) .class ≡ class → (over ≡ true → m .mark ≡ false) → with m (m .processes) (m .gates) (r .ready) (r .running) ≡ if over (yields m h) m) ⌝ }
+    ensures { λ r. ⌜ ((m : Machine) → m .ready ≡ ready → m .running ≡ running → (proc m h) .class ≡ class → (over ≡ true → m .mark ≡ false)
+        → with m (m .processes) (m .gates) (r .ready) (r .running) ≡ if over (yields m h) m) ⌝ }
 {
     let best = best_of(ready);
     let now = over & (best <= class);

@@ -267,7 +267,7 @@ fn say_gates(m: Machine) {
         return;
     }
     say(b"  gate  state  holder  waiting            delayed, cell:process\n");
-    for g in 0..25u8 {
+    for g in 0..Machine::GATES {
         if g < m.made {
             let gate = m.gates[g as usize];
             say_gate(g, gate);
