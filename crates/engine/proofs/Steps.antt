@@ -10,7 +10,7 @@ use Rattle.notation.proofs.Upto.{NoneOf, none-past}
 use Rattle.machine.specs.View.{View, faults, Effect, effect, n, op, faulted}
 use Rattle.machine.specs.Job.{endJob, takesStop}
 use Rattle.machine.specs.Instruction.{perform, execute, settled, instruct}
-use Rattle.promises.proofs.Faults.{faults-keep}
+use Rattle.laws.proofs.Faults.{faults-keep}
 use Rattle.engine.specs.declared.stack.Out.{Out}
 use Rattle.engine.specs.declared.stack.Out.the-variants.{Next, Fault, Call}
 use Rattle.engine.specs.Did.{seen, did}

@@ -9,14 +9,15 @@ use Rattle.machine.specs.declared.Regs.{Regs}
 use Rattle.machine.specs.View.{View, next, faults, calls, Effect, effect, n, faulted}
 use Rattle.machine.specs.Instruction.{instruct}
 use Rattle.machine.specs.Sound.{jobOk}
-use Rattle.promises.specs.Marks.{Fit}
-use Rattle.promises.proofs.Marks.{marks-kept, stores-kept}
-use Rattle.promises.proofs.Faults.{stops-keep, calls-keep}
-use Rattle.promises.proofs.Runs.{part, at-most, equal, in-job, job-high}
+use Rattle.laws.specs.Marks.{Fit}
+use Rattle.laws.proofs.Marks.{marks-kept, stores-kept}
+use Rattle.laws.proofs.Faults.{stops-keep, calls-keep}
+use Rattle.laws.proofs.Runs.{in-job, job-high}
 use Rattle.engine.specs.declared.stack.Out.{Out}
 use Rattle.engine.specs.declared.stack.Out.the-variants.{Next, Fault as Fails, Call as Calls}
 use Rattle.engine.specs.Did.{did, ReadyToEnd}
 use Rattle.engine.specs.Burst.{atBudget, atCall, atFault, atJobsEnd, bursted, moved, jobOver, follows, after, goesOn, fit}
+use Rattle.notation.proofs.Test.{part, at-most, equal}
 
 -- what the tests of a burst's beginning tell
 pub told : (v : View) → fit v ≡ true → Fit v × (n v ≤ 16256)

@@ -5,7 +5,7 @@ ghost use mathlib.Core.List.{List};
 ghost use Prim.Native.Nat.{ℕ, _≤_};
 ghost use lib.ListN.{length};
 ghost use Rattle.machine.specs.Sound.{jobOk};
-ghost use Rattle.promises.specs.Marks.{Fit};
+ghost use Rattle.laws.specs.Marks.{Fit};
 ghost use Rattle.engine.specs.Did.{seen};
 ghost use Rattle.engine.specs.Burst.{burstSays, goesOn, bursts, fit};
 use crate::perform::instruct;

@@ -19,7 +19,7 @@ use Rattle.machine.specs.Device.{deviceEnd, recorded, deviceDone}
 use Rattle.machine.specs.Call.{kernel}
 use Rattle.machine.specs.Step.{stopped}
 use Rattle.machine.specs.Offer.{storesFit}
-use Rattle.promises.proofs.Runs.{part, at-most}
+use Rattle.notation.proofs.Test.{part, at-most}
 use Rattle.kernel.specs.declared.caller.Caller.{Caller}
 use Rattle.kernel.specs.Did.{world, outcome, Able, able, Told, callerOf, traps, ends}
 use Rattle.kernel.proofs.Laws.{stopping}

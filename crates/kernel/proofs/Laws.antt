@@ -20,9 +20,10 @@ use Rattle.machine.specs.Store.{World, own}
 use Rattle.machine.specs.Clock.{clockWait}
 use Rattle.machine.specs.Call.{stackWord, passed, call0, call1, call2, finish, call4, stopAnswer, stopJob, call5, call6, call7, call8, call9, call10}
 use Rattle.machine.specs.Step.{onward, stopped}
-use Rattle.promises.proofs.Fixed.{set-keeps, fixed-make}
+use Rattle.machine.proofs.Registers.{make-regs}
 use Rattle.kernel.specs.declared.caller.Caller.{Caller}
 use Rattle.kernel.specs.Did.{Able, callerOf, world, Outcome, outcome}
+use Rattle.notation.proofs.Cells.{set-keeps}
 
 pub ruleset cases = (needs, lt-ltb, le-ltb, le-leb, lt-leb, eq-eqb, ne-eqb)
 
@@ -200,7 +201,7 @@ module _ (m : Machine) (c q : List ℕ) where
     call10-goes f g e =
         let n : Machine = passed m (regs m .s - 1) in
         let z = make-running n ∙ passed-running m (regs m .s - 1) in
-        let t = ap (λ (r : Regs). r .s) (fixed-make n .regs (m .running)) ∙ passed-top m (regs m .s - 1) long in
+        let t = ap (λ (r : Regs). r .s) (make-regs n (m .running)) ∙ passed-top m (regs m .s - 1) long in
         rw (f, g, e, z, t)
 
   pub call1-full : leb (2048 + (proc m (m .running)) .variables + 1) (regs m .s) ≡ false → stopping m 6 c q ≡ outcome w (call1 w)

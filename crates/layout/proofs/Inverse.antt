@@ -17,7 +17,7 @@ use Rattle.machine.specs.declared.Process.{Process}
 use Rattle.machine.specs.declared.Device.{Device}
 use Rattle.machine.specs.declared.Machine.{Machine}
 use Rattle.machine.specs.State.{noProcess, noGate, noQueue, noDevice, proc, gate, ready, device}
-use Rattle.promises.specs.SoundKept.{Shaped}
+use Rattle.machine.specs.Shape.{Shaped}
 use Rattle.layout.specs.Layout.{rows, queueWords, gateWords, regsWords, processWords, deviceWords, numberWords, packed, from, queueOf, gateOf, regsOf, processOf, deviceOf, unpacked, bytes, processFits, fits, stateWords}
 use Rattle.layout.specs.Read.{Fitting}
 use Rattle.layout.specs.Inverse.{Small, Bytes, PackedFits, UnpackedPacked, PackedUnpacked}

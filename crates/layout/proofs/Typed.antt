@@ -9,7 +9,7 @@ use Rattle.notation.proofs.Upto.{below?, all-at, length-list, getD-list}
 use Rattle.machine.specs.declared.Process.{Process}
 use Rattle.machine.specs.declared.Device.{Device}
 use Rattle.machine.specs.State.{noProcess, noGate, noQueue, noDevice, proc, gate, ready, device}
-use Rattle.promises.specs.SoundKept.{Shaped}
+use Rattle.machine.specs.Shape.{Shaped}
 use Rattle.layout.specs.Layout.{from, bytes, processFits, queueWords, gateWords, queueOf, gateOf, processOf, deviceOf, unpacked}
 use Rattle.layout.specs.Read.{Fitting}
 use Rattle.layout.specs.Inverse.{Small, Bytes, UnpackedTyped}

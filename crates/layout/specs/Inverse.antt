@@ -6,7 +6,7 @@ use Prim.Native.Nat.{ℕ, _<_}
 use lib.ListN.{getD}
 use Rattle.machine.specs.declared.Machine.{Machine}
 use Rattle.machine.specs.State.{proc, gate, ready, device}
-use Rattle.promises.specs.SoundKept.{Shaped}
+use Rattle.machine.specs.Shape.{Shaped}
 use Rattle.layout.specs.Layout.{queueWords, gateWords, packed, unpacked, fits}
 
 -- no word above 255

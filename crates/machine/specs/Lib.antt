@@ -16,3 +16,4 @@ pub mod Offer
 pub mod Load
 pub mod Release
 pub mod Parts
+pub mod Shape

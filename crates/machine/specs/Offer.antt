@@ -1,6 +1,6 @@
 -- What the world may offer: a step, a run, a tick, a done, a bell. Each is taken, or refused by its number in the table's order
 use mathlib.Core.Bool.{Bool, _&&_, _||_, not}
-use mathlib.Core.List.{List}
+use mathlib.Core.List.{List, [], _∷_}
 use Prim.Native.Nat.{ℕ}
 use lib.Dec.{ltb, leb, eqb}
 use lib.ListN.{length}
@@ -84,3 +84,8 @@ offer code w aStep = offerStep code w
 offer code w aTick = offerTick w
 offer code w (aDone d status arg) = offerDone w d status arg
 offer code w aBell = offerBell w
+
+-- any list of them, one after the other
+unfoldable pub afterAll : List ℕ → World → List Offer → World
+afterAll code w [] = w
+afterAll code w (x ∷ xs) = afterAll code (after w (offer code w x)) xs

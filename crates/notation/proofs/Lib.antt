@@ -1,1 +1,3 @@
 pub mod Upto
+pub mod Test
+pub mod Cells

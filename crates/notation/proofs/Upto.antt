@@ -174,25 +174,38 @@ pub sum-last : (f : ℕ → ℕ) (n : ℕ) → sumTo f (suc n) ≡ sumTo f n + f
 unfolding sumTo
 sum-last f n = refl
 
--- a sum in two parts; of two functions; by strips of m, one of each strip at a time
+-- a sum in two parts; at least one of its terms; of none; without its first; of two functions; by strips of m, one of each strip at a time
 pub sum-parts : (f : ℕ → ℕ) (n m : ℕ) → sumTo f (n + m) ≡ sumTo f n + sumTo (λ j. f (n + j)) m
 unfolding sumTo
 sum-parts f n zero = let z : n + zero ≡ n = omega arith in rw z (omega arith)
 sum-parts f n (suc m) = let z : n + suc m ≡ suc (n + m) = omega arith in let h = sum-parts f n m in rw z (omega (arith, h))
 
-sum-both : (f g : ℕ → ℕ) (n : ℕ) → sumTo (λ i. f i + g i) n ≡ sumTo f n + sumTo g n
+pub sum-get : (f : ℕ → ℕ) (n k : ℕ) → k < n → f k ≤ sumTo f n
+unfolding sumTo
+sum-get f zero k l = absurd (omega arith)
+sum-get f (suc n) k l =
+    below? k n
+    (λ h. let i = sum-get f n k h in omega arith)
+    (λ h. let e : k ≡ n = omega arith in rw e (omega arith))
+
+pub sum-none : (f : ℕ → ℕ) (n : ℕ) → ((k : ℕ) → k < n → f k ≡ 0) → sumTo f n ≡ 0
+unfolding sumTo
+sum-none f zero h = refl
+sum-none f (suc n) h = let i = sum-none f n (λ k l. h k (omega arith)) in let e = h n (omega arith) in omega arith
+
+pub sum-first : (f : ℕ → ℕ) (n : ℕ) → sumTo f (suc n) ≡ f 0 + sumTo (λ k. f (suc k)) n
+unfolding sumTo
+sum-first f zero = omega arith
+sum-first f (suc n) = let i = sum-first f n in omega arith
+
+pub sum-both : (f g : ℕ → ℕ) (n : ℕ) → sumTo (λ k. f k + g k) n ≡ sumTo f n + sumTo g n
 unfolding sumTo
 sum-both f g zero = refl
-sum-both f g (suc n) = omega (arith, sum-both f g n)
-
-sum-zero : (n : ℕ) → sumTo (λ i. 0) n ≡ 0
-unfolding sumTo
-sum-zero zero = refl
-sum-zero (suc n) = omega (arith, sum-zero n)
+sum-both f g (suc n) = let i = sum-both f g n in omega arith
 
 pub sum-strips : (f : ℕ → ℕ) (m n : ℕ) → sumTo (λ i. sumTo (λ j. f (m * j + i)) n) m ≡ sumTo f (m * n)
 unfolding sumTo
-sum-strips f m zero = sum-zero m ∙ ap (sumTo f) (sym (mul-zero m))
+sum-strips f m zero = sum-none (λ i. 0) m (λ k l. refl) ∙ ap (sumTo f) (sym (mul-zero m))
 sum-strips f m (suc n) =
     sum-both (λ i. sumTo (λ j. f (m * j + i)) n) (λ i. f (m * n + i)) m
     ∙ ap (λ (k : ℕ). k + sumTo (λ i. f (m * n + i)) m) (sum-strips f m n)

@@ -20,8 +20,8 @@ use Rattle.machine.specs.Store.{whole, placeOf}
 use Rattle.machine.specs.Sound.{sound}
 use Rattle.machine.specs.Device.{isPresent, isBusy, recordOf}
 use Rattle.machine.specs.Offer.{storesFit}
-use Rattle.promises.specs.SoundKept.{Shaped}
-use Rattle.promises.proofs.Tested.{tested}
+use Rattle.machine.specs.Shape.{Shaped}
+use Rattle.kept.proofs.Tested.{tested}
 use Rattle.plumbsorrel.proofs.Chain.{chain-cases, by-test}
 use Rattle.plumbsorrel.proofs.Laws.{same-known, machine-is}
 use Rattle.plumbsorrel.specs.Number.{replyNumber, blockNamed}

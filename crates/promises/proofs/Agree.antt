@@ -10,7 +10,7 @@ use borrow.Author.Tests.{ltb-true, eqb-true, eqb-false}
 use Rattle.notation.proofs.Upto.{split, below?}
 use Rattle.machine.specs.Store.{Place, inCommon, inOwn, nowhere, placeOf, partOf, wordIn, privateWith}
 use Rattle.promises.specs.PrivateWords.{AgreeBut}
-use Rattle.promises.proofs.Rows.{row-sets}
+use Rattle.laws.proofs.Rows.{row-sets}
 
 -- a word after a store, in two lists that had the same word there
 same-set : (q q′ : List ℕ) (i x k : ℕ) → length q ≡ length q′ → getD q k 0 ≡ getD q′ k 0 → getD (set q i x) k 0 ≡ getD (set q′ i x) k 0

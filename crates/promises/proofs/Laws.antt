@@ -1,14 +1,11 @@
 -- The first laws follow from the definitions' forms
 use mathlib.Core.Path.{sym, ap, _∙_}
-use borrow.Author.Tests.{le-leb}
-use Rattle.machine.specs.State.{nobody}
 use Rattle.machine.specs.Sound.{sound}
-use Rattle.machine.specs.Step.{step}
+use Rattle.kept.proofs.Stepping.{idle-step as idles}
 use Rattle.promises.specs.Laws.{IdleStep, SameOffer, SameRun, SameLoading, SoundReadsNoStore}
 
 pub idle-step : IdleStep
-unfolding step
-idle-step code w h = rw (le-leb nobody (w .machine .running) h)
+idle-step = idles
 
 pub same-offer : SameOffer
 same-offer code w x o o′ e e′ = e ∙ sym e′

@@ -18,10 +18,11 @@ use Rattle.machine.specs.Step.{view, selected, halted, called, resulted, step}
 use Rattle.machine.specs.Sound.{sound}
 use Rattle.machine.specs.Offer.{did, storesFit, offerStep}
 use Rattle.promises.specs.PrivateWords.{AgreeBut, DifferOnly, SameBut, PrivateWords}
-use Rattle.promises.proofs.Runs.{equal, running-fit}
-use Rattle.promises.proofs.Marks.{stores-kept}
+use Rattle.laws.proofs.Runs.{running-fit}
+use Rattle.laws.proofs.Marks.{stores-kept}
 use Rattle.promises.proofs.Agree.{agree-row, same-part}
 use Rattle.promises.proofs.SameCalled.{Sees, SameCalled, both-on, both-start, both-stop, over, same-kernel}
+use Rattle.notation.proofs.Test.{equal}
 
 selected-same : {j : ℕ} {v v′ : World} → DifferOnly j v v′ → DifferOnly j (selected v) (selected v′)
 selected-same d = record { machine = ap select (d .machine); common = d .common; private = d .private }

@@ -9,11 +9,10 @@ use Rattle.machine.specs.State.{nobody, going}
 use Rattle.machine.specs.Store.{World}
 use Rattle.machine.specs.Step.{Ended, onward, idle, starting, stopped, Stepped, stepped, step}
 use Rattle.machine.specs.Run.{run}
-use Rattle.machine.specs.Offer.{did, aStep, offer}
-use Rattle.promises.specs.SoundKept.{afterAll}
+use Rattle.machine.specs.Offer.{did, aStep, offer, afterAll}
 use Rattle.promises.specs.RunSteps.{Steps, none, last, first, Ran, RunSteps, RunWorld}
 use Rattle.promises.proofs.Laws.{idle-step}
-use Rattle.promises.proofs.Stepping.{Able, step-moved, able-again, step-taken, run-took}
+use Rattle.kept.proofs.Stepping.{Able, step-moved, able-again, step-taken, run-took}
 
 -- ---- a step before a run
 module _ (code : List ℕ) (budget k : ℕ) (w u : World) (s : Stepped) (one : k ≡ 1) (o : offer code w aStep ≡ did (stepped u onward 1)) where

@@ -17,8 +17,8 @@ use Rattle.machine.specs.Device.{withWord, isPresent, isBusy}
 use Rattle.machine.specs.Call.{Called, on, starts, stops, caller, floor, stackWord, hasWords, hasRoom, same, withTop, newPart, onGate, onCell, ioBegins, call0, call1, call2, call3, call4, call5, call6, call7, call8, call9, call10, call11, kernel}
 use Rattle.machine.specs.Step.{view}
 use Rattle.promises.specs.PrivateWords.{AgreeBut, DifferOnly}
-use Rattle.promises.specs.Marks.{Fit}
-use Rattle.promises.proofs.Runs.{job-high}
+use Rattle.laws.specs.Marks.{Fit}
+use Rattle.laws.proofs.Runs.{job-high}
 use Rattle.promises.proofs.Agree.{agree-set, agree-row, agree-with, same-at, same-word}
 
 -- the running process is not j, with its marks in order, over two private stores that agree but for j's part

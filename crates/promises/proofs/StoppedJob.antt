@@ -25,20 +25,21 @@ use Rattle.machine.specs.Device.{deviceDone}
 use Rattle.machine.specs.Call.{on, stackWord, caller, passed, popped, withTop, stopAnswer, stopping, stopJob, call5, kernel}
 use Rattle.machine.specs.Step.{view, Stepped, stepped, onward, withMachine, selected, halted, resulted, step}
 use Rattle.machine.specs.Sound.{sound}
-use Rattle.machine.specs.Offer.{refusal6, refusal7, refusal8, refusal9, Offered, did, refuses, offered, offerStep, offerTick, offerBell, offerDone, after, Offer, aStep, aTick, aDone, aBell, offer}
+use Rattle.machine.specs.Offer.{refusal6, refusal7, refusal8, refusal9, Offered, did, refuses, offered, offerStep, offerTick, offerBell, offerDone, after, Offer, aStep, aTick, aDone, aBell, offer, afterAll}
 use Rattle.machine.specs.Release.{isCompleted, byCall}
-use Rattle.promises.specs.SoundKept.{Shaped, afterAll}
+use Rattle.machine.specs.Shape.{Shaped}
 use Rattle.promises.specs.StoppedJob.{isInJob, Pending, staysInJob, resultOf, PendingJobNeverReturns0, PendingJobReturns, answers0, stopsJob, StoppedJobNeverReturns0, StoppedJobReturns, StillPending}
 use Rattle.promises.proofs.Laws.{idle-step}
-use Rattle.promises.proofs.Runs.{part, equal, in-job}
-use Rattle.promises.proofs.Marks.{Marked, marked}
-use Rattle.promises.proofs.Tested.{tested}
-use Rattle.promises.proofs.Registers.{stops-of}
-use Rattle.promises.proofs.SoundKept.{sound-kept}
-use Rattle.promises.proofs.Fixed.{Fixed, also, fixed-select, fixed-tick, fixed-bell, fixed-device-end}
-use Rattle.promises.proofs.Spares.{set-other}
-use Rattle.promises.proofs.Stepping.{Able, private-long, able-fit, step-moved, able-again, step-took}
+use Rattle.laws.proofs.Runs.{in-job}
+use Rattle.laws.proofs.Marks.{Marked, marked}
+use Rattle.kept.proofs.Tested.{tested}
+use Rattle.kept.proofs.Registers.{stops-of}
+use Rattle.kept.proofs.SoundKept.{sound-kept}
+use Rattle.kept.proofs.Fixed.{Fixed, also, fixed-select, fixed-tick, fixed-bell, fixed-device-end}
+use Rattle.kept.proofs.Spares.{set-other}
+use Rattle.kept.proofs.Stepping.{Able, private-long, able-fit, step-moved, able-again, step-took}
 use Rattle.promises.proofs.JobEnds.{Returns, Does, goes, fails, ends, instruct-does}
+use Rattle.notation.proofs.Test.{part, equal}
 
 -- what becomes of a pending stop: it is still so, or the job has ended and returned the reason or the number of a fault
 data Fate (why q : ℕ) (w u : World) : Type 0 where

@@ -1,30 +1,18 @@
--- A faulting instruction does none of its own work, and one that calls the kernel leaves all of it to the kernel
+-- What a fault leaves of a whole step, with its kernel call
 use mathlib.Core.Path.{_≡_}
 use mathlib.Core.Bool.{true, false}
 use mathlib.Core.List.{List}
 use Prim.Native.Nat.{ℕ, _-_, _<_}
 use lib.ListN.{set}
 use Rattle.machine.specs.declared.Process.{Process}
-use Rattle.machine.specs.State.{nobody, proc, floorOf, withProcess, withRegs}
+use Rattle.machine.specs.State.{nobody, floorOf, withProcess, withRegs}
 use Rattle.machine.specs.Store.{World, partOf, withPart}
-use Rattle.machine.specs.View.{View, faults, calls, effect, faulted}
+use Rattle.machine.specs.View.{faults}
 use Rattle.machine.specs.Job.{afterJob, takesStop}
-use Rattle.machine.specs.Instruction.{perform, execute, instruct}
+use Rattle.machine.specs.Instruction.{execute}
 use Rattle.machine.specs.Call.{caller}
 use Rattle.machine.specs.Step.{view, onward, stopped, stepped, selected, halted, step}
 
--- an instruction by its code, which in a job may still end the job
-abbrev pub FaultsKeep : Type 0
-FaultsKeep = (v : View) (code f : ℕ) → (perform v code) .out ≡ faults f → perform v code ≡ faulted v f
-
--- one instruction with its job: where a fault is left, it stops the machine
-abbrev pub StopsKeep : Type 0
-StopsKeep = (v : View) (f : ℕ) → (instruct v) .out ≡ faults f → instruct v ≡ faulted v f
-
-abbrev pub CallsKeep : Type 0
-CallsKeep = (v : View) (k : ℕ) → (instruct v) .out ≡ calls k → instruct v ≡ effect (calls k) (v .common) (v .own)
-
--- ---- a whole step, with its kernel call
 -- "When a fault or call 2 stops the machine, all else stays as before that instruction": but for the stop's number and line
 abbrev pub StoppingStep : Type 0
 StoppingStep =

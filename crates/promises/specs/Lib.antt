@@ -1,9 +1,7 @@
+pub mod Faults
 pub mod OneImage
 pub mod Table
 pub mod Laws
-pub mod Marks
 pub mod PrivateWords
-pub mod Faults
-pub mod SoundKept
 pub mod RunSteps
 pub mod StoppedJob

@@ -5,8 +5,8 @@ use Prim.Native.Nat.{ℕ, suc, _<_, _≤_}
 use lib.ListN.{replicate}
 use Rattle.machine.specs.Store.{World}
 use Rattle.machine.specs.Step.{Ended, onward, idle, starting, stopped, Stepped, stepped}
-use Rattle.machine.specs.Offer.{did, offerRun, aStep, offer}
-use Rattle.promises.specs.SoundKept.{Shaped, afterAll}
+use Rattle.machine.specs.Offer.{did, offerRun, aStep, offer, afterAll}
+use Rattle.machine.specs.Shape.{Shaped}
 
 -- k single steps from the world w to the world v: each is offered and taken, and counts 1; each ends onward, but the last ends as e
 pub data Steps (code : List ℕ) : ℕ → World → Ended → World → Type 0 where

@@ -11,9 +11,9 @@ use Rattle.machine.specs.Store.{World, own}
 use Rattle.machine.specs.Sound.{sound}
 use Rattle.machine.specs.Call.{stackWord, stopAnswer, kernel}
 use Rattle.machine.specs.Step.{Stepped}
-use Rattle.machine.specs.Offer.{did, after, Offer, aStep, offer}
+use Rattle.machine.specs.Offer.{did, after, Offer, aStep, offer, afterAll}
 use Rattle.machine.specs.Release.{isCompleted, atCall}
-use Rattle.promises.specs.SoundKept.{Shaped, afterAll}
+use Rattle.machine.specs.Shape.{Shaped}
 
 abbrev pub isInJob : World → ℕ → Bool
 isInJob w q = (proc (w .machine) q) .regs .«in_job»

@@ -1,1 +1,1 @@
-// No code: the theorems over the definitions, a file each, in specs/; their proofs in proofs/.
+// No code: the theorems that a reader wants, a file each, in specs/; their proofs in proofs/.

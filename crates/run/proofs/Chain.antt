@@ -23,8 +23,8 @@ use Rattle.machine.specs.Sound.{sound, deviceOk}
 use Rattle.machine.specs.Step.{Stepped, stepped, onward}
 use Rattle.machine.specs.Offer.{storesFit, refusal7, refusal8, refusal9, offered, offerDone, offerRun}
 use Rattle.machine.specs.Run.{run}
-use Rattle.promises.specs.SoundKept.{Shaped}
-use Rattle.promises.proofs.Runs.{part}
+use Rattle.machine.specs.Shape.{Shaped}
+use Rattle.notation.proofs.Test.{part}
 use Rattle.kernel.specs.Did.{ends as doneBy}
 use Rattle.run.specs.Said.{world, answerOf, ends, outcome, runOutcome, doneOutcome, replyOf}
 use Rattle.run.specs.Ran.{Accepted}

@@ -21,10 +21,10 @@ use Rattle.machine.specs.Instruction.{instruct}
 use Rattle.machine.specs.Classes.{selects}
 use Rattle.machine.specs.Call.{Called, on, starts, stops, kernel}
 use Rattle.machine.specs.Step.{view, Stepped, called, halted}
-use Rattle.promises.proofs.Runs.{at-most, job-high}
-use Rattle.promises.proofs.Marks.{marked}
-use Rattle.promises.proofs.Tested.{tested}
-use Rattle.promises.proofs.Stepping.{Able, private-long, able-fit, able-again}
+use Rattle.laws.proofs.Runs.{job-high}
+use Rattle.laws.proofs.Marks.{marked}
+use Rattle.kept.proofs.Tested.{tested}
+use Rattle.kept.proofs.Stepping.{Able, private-long, able-fit, able-again}
 use Rattle.engine.specs.declared.burst.Burst.{Burst}
 use Rattle.engine.specs.Burst.{Ending, atBudget, atCall, atFault, atJobsEnd, unfit, Bursted, endSays, burstSays, moved, jobOver, goesOn, bursts}
 use Rattle.kernel.specs.declared.answer.Decision.{Decision}
@@ -35,6 +35,7 @@ use Rattle.run.specs.Said.{world}
 use Rattle.run.specs.Ran.{Accepted, Leaves, BurstOf, Small, Callable, Countable, counted, following, movedCaller, settled}
 use Rattle.run.proofs.Parts.{put-same, put-view, put-put}
 use Rattle.run.proofs.Turns.{few, room, own-long, burst-step, steps-on, runs-on, stays-on, is-fit}
+use Rattle.notation.proofs.Test.{at-most}
 
 -- ---- the part of the private store that a burst is lent
 module _ (code : List ℕ) (i : ℕ) (p : Process) (quota : ℕ) (common q : List ℕ) where

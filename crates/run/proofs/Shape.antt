@@ -15,7 +15,7 @@ use Rattle.machine.proofs.Machine.{the-type}
 use Rattle.machine.proofs.Process as P
 use Rattle.machine.proofs.Gate as G
 use Rattle.machine.proofs.Queue as Q
-use Rattle.promises.specs.SoundKept.{Shaped}
+use Rattle.machine.specs.Shape.{Shaped}
 use mir.Val.{Val}
 use base.Fml.{Fml}
 use denote.Shadow.{shadow}

@@ -15,11 +15,10 @@ use Rattle.machine.specs.Instruction.{instruct}
 use Rattle.machine.specs.Classes.{selects}
 use Rattle.machine.specs.Step.{view, Ended, onward, idle, starting, stopped, Stepped, stepped, resulted, step}
 use Rattle.machine.specs.Run.{run, goesOn as thenOn}
-use Rattle.promises.proofs.Laws.{idle-step}
-use Rattle.promises.proofs.Runs.{at-most}
-use Rattle.promises.proofs.Marks.{stores-kept}
-use Rattle.promises.proofs.Tested.{tested}
-use Rattle.promises.proofs.Stepping.{Able, private-long, able-fit, step-moved, able-again}
+use Rattle.notation.proofs.Test.{at-most}
+use Rattle.laws.proofs.Marks.{stores-kept}
+use Rattle.kept.proofs.Tested.{tested}
+use Rattle.kept.proofs.Stepping.{Able, private-long, able-fit, step-moved, able-again, idle-step}
 use Rattle.engine.specs.Burst.{Bursted, moved, jobOver, follows as burstFollows, after, goesOn, fit, bursts}
 use Rattle.run.specs.Turn.{put, later, turned, turn, quotaOf}
 use Rattle.run.specs.Turns.{TurnRun, IdleRun}

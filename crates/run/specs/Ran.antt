@@ -15,7 +15,7 @@ use Rattle.machine.specs.Sound.{sound}
 use Rattle.machine.specs.Call.{stops}
 use Rattle.machine.specs.Step.{view, Ended, onward, idle, starting, stopped, Stepped, stepped, selected}
 use Rattle.machine.specs.Offer.{storesFit}
-use Rattle.promises.specs.SoundKept.{Shaped}
+use Rattle.machine.specs.Shape.{Shaped}
 use Rattle.engine.specs.declared.burst.Burst.{Burst}
 use Rattle.engine.specs.Burst.{Ending, atBudget, atCall, atFault, atJobsEnd, unfit, Bursted, endSays, bursts}
 use Rattle.kernel.specs.declared.answer.Decision.{Decision}

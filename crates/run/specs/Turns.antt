@@ -10,7 +10,7 @@ use Rattle.machine.specs.Sound.{sound}
 use Rattle.machine.specs.Step.{idle, Stepped, stepped}
 use Rattle.machine.specs.Run.{run, goesOn}
 use Rattle.machine.specs.Offer.{storesFit}
-use Rattle.promises.specs.SoundKept.{Shaped}
+use Rattle.machine.specs.Shape.{Shaped}
 use Rattle.run.specs.Turn.{turn, quotaOf}
 
 -- a turn counts 1 to the budget, and the world after it is as this law asks of the world before it

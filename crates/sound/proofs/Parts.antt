@@ -8,11 +8,11 @@ use lib.Dec.{ltb, eqb}
 use lib.ListN.{getD, replicate}
 use borrow.Author.Tests.{ltb-true, leb-true, eqb-true, eqb-false, le-leb, lt-leb, eq-eqb}
 use Rattle.notation.specs.Upto.{sumTo, allTo}
-use Rattle.notation.proofs.Upto.{split, both, all-at, all-of}
+use Rattle.notation.proofs.Upto.{split, both, all-at, all-of, sum-none}
 use Rattle.word.specs.Word.{bit}
 use Rattle.machine.specs.Sound.{sits, inQueue, inCells, atGate}
 use Rattle.machine.specs.State.{nobody, noProcess}
-use Rattle.promises.proofs.Counts.{sits-other, sum-none}
+use Rattle.machine.proofs.Sits.{sits-other}
 use Rattle.machine.specs.declared.Queue.{Queue}
 use Rattle.machine.specs.declared.Gate.{Gate}
 use Rattle.machine.specs.declared.Process.{Process}

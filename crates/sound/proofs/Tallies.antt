@@ -7,11 +7,12 @@ use lib.Dec.{eqb}
 use lib.ListN.{length, getD, set, replicate, length-set, getD-replicate}
 use Rattle.notation.specs.Upto.{sumTo}
 use Rattle.machine.specs.Sound.{sits, inQueue, inCells, atGate}
-use Rattle.promises.proofs.Counts.{at-set, sits-self, sits-other}
+use Rattle.notation.proofs.Cells.{at-set}
 use Rattle.machine.specs.declared.Queue.{Queue}
 use Rattle.machine.specs.declared.Gate.{Gate}
 use Rattle.sound.specs.Tally.{Grown, Counts}
 use Rattle.sound.proofs.Laws.{sum-most, bit-most}
+use Rattle.machine.proofs.Sits.{sits-self, sits-other}
 
 -- a tally begins with zeros
 pub zeros : (n k : ℕ) → k < n → _≡_ {A = ℕ} (getD (replicate n 0) k 0) 0

@@ -8,7 +8,7 @@ use lib.Dec.{ltb, leb, eqb}
 use lib.ListN.{getD}
 use Rattle.notation.specs.Upto.{sumTo, allTo}
 use Rattle.notation.proofs.Upto.{all-at}
-use Rattle.promises.proofs.Runs.{part, at-most}
+use Rattle.notation.proofs.Test.{part, at-most}
 use Rattle.word.specs.Word.{bit}
 use Rattle.machine.specs.declared.Queue.{Queue}
 use Rattle.machine.specs.declared.Process.{Process}

@@ -15,7 +15,7 @@ use Rattle.machine.specs.State.{nobody, noGate, gate, parts, more}
 use Rattle.machine.specs.Queue.{first, pushed, rest}
 use Rattle.machine.specs.Classes.{setRunning, push, wake}
 use Rattle.machine.specs.Gate.{join, advance, sit, grant, giveUp, pass, handOn, enter, leave, delay, cell, continue, makeGate}
-use Rattle.promises.proofs.Counts.{sum-set}
+use Rattle.kept.proofs.Counts.{sum-set}
 use Rattle.waiting.proofs.Places.{stands-pushed}
 use Rattle.waiting.proofs.Turns.{taken, filled, Quiet, Freed, Turn, calm, frees-up, alike, still, freed}
 

@@ -6,11 +6,11 @@ use Prim.Native.Nat.{ℕ}
 use Rattle.machine.specs.declared.Machine.{Machine}
 use Rattle.machine.specs.Store.{World}
 use Rattle.machine.specs.Sound.{sound}
-use Rattle.machine.specs.Offer.{Offer, offer, after}
-use Rattle.promises.specs.SoundKept.{Shaped, afterAll}
-use Rattle.promises.proofs.Nearly.{Sound}
-use Rattle.promises.proofs.Tested.{tested}
-use Rattle.promises.proofs.SoundKept.{sound-kept, sound-over-all}
+use Rattle.machine.specs.Offer.{Offer, offer, after, afterAll}
+use Rattle.machine.specs.Shape.{Shaped}
+use Rattle.kept.proofs.Nearly.{Sound}
+use Rattle.kept.proofs.Tested.{tested}
+use Rattle.kept.proofs.SoundKept.{sound-kept, sound-over-all}
 
 pub record Good (m : Machine) : Type 0 where
   pub shaped : Shaped m

@@ -7,15 +7,16 @@ use Rattle.machine.specs.declared.Machine.{Machine}
 use Rattle.machine.specs.State.{ready}
 use Rattle.machine.specs.Store.{World}
 use Rattle.machine.specs.Sound.{inQueue, isReady, places}
-use Rattle.machine.specs.Offer.{Offer}
-use Rattle.promises.specs.SoundKept.{afterAll}
-use Rattle.promises.proofs.Counts.{stands, sits-self, sum-get}
+use Rattle.machine.specs.Offer.{Offer, afterAll}
+use Rattle.kept.proofs.Counts.{stands}
 use Rattle.waiting.specs.Waiting.{InPlace, selectionsIn, selectionsFrom, ReadyStill, RunsThen, RunsAtSelection, RunsWithin, bound0, bound2, RunsBy, RunsInTime, RunsSooner}
 use Rattle.waiting.proofs.Places.{Stands, stands-of, place-of}
 use Rattle.waiting.proofs.Good.{Good, is-sound, later-good}
 use Rattle.waiting.proofs.Ready.{line, Tidy}
 use Rattle.waiting.proofs.Room.{Rule, Room0, rule0, Room2, rule2}
 use Rattle.waiting.proofs.Running.{runs, moves-up, in-time}
+use Rattle.machine.proofs.Sits.{sits-self}
+use Rattle.notation.proofs.Upto.{sum-get}
 
 -- ---- what a sound state tells
 is-tidy : {m : Machine} → Good m → Tidy (line m)

@@ -7,8 +7,7 @@ use native.Mathlib.Omega.{arith}
 use Rattle.notation.proofs.Upto.{split}
 use Rattle.word.specs.Word.{bit}
 use Rattle.machine.specs.Store.{World}
-use Rattle.machine.specs.Offer.{Offer, offer, after}
-use Rattle.promises.specs.SoundKept.{afterAll}
+use Rattle.machine.specs.Offer.{Offer, offer, after, afterAll}
 use Rattle.waiting.specs.Count.{countIn}
 
 pub bit-most : (b : Bool) → bit b ≤ 1

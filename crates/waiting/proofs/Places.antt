@@ -8,7 +8,7 @@ use lib.Seq.{getD-set-other}
 use Rattle.notation.proofs.Upto.{split}
 use Rattle.machine.specs.declared.Queue.{Queue}
 use Rattle.machine.specs.Queue.{pushed, rest}
-use Rattle.promises.proofs.Counts.{shifted-at}
+use Rattle.kept.proofs.Counts.{shifted-at}
 use Rattle.waiting.specs.Waiting.{InPlace}
 
 -- i stands in place k, counted from 0

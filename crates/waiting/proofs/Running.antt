@@ -13,8 +13,7 @@ use Rattle.machine.specs.declared.Machine.{Machine}
 use Rattle.machine.specs.State.{ready}
 use Rattle.machine.specs.Store.{World}
 use Rattle.machine.specs.Classes.{source, countFrom, selection}
-use Rattle.machine.specs.Offer.{Offer, offer, after}
-use Rattle.promises.specs.SoundKept.{afterAll}
+use Rattle.machine.specs.Offer.{Offer, offer, after, afterAll}
 use Rattle.waiting.specs.Count.{countIn}
 use Rattle.waiting.specs.Selection.{selectsAt, selectsFrom}
 use Rattle.waiting.specs.Waiting.{selectionsIn, selectionsFrom, RunsWithin}

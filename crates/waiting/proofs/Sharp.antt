@@ -22,14 +22,14 @@ use Rattle.machine.specs.Call.{passed, born, createProcess, call8, call9, kerne
 use Rattle.machine.specs.Step.{step}
 use Rattle.machine.specs.Sound.{inQueue, inCells, atGate, isReady, places, queueOk, classOk, heldOf, gateOk, isAtGates, holdsOk, jobOk, marksOk, processOk, deviceOk, numbersOk, sound}
 use Rattle.machine.specs.Release.{releases, completes}
-use Rattle.machine.specs.Offer.{offerStep, Offer, aStep, offer}
-use Rattle.promises.specs.SoundKept.{Shaped, afterAll}
-use Rattle.promises.proofs.Runs.{part, equal}
+use Rattle.machine.specs.Offer.{offerStep, Offer, aStep, offer, afterAll}
+use Rattle.machine.specs.Shape.{Shaped}
 use Rattle.waiting.specs.Count.{countIn}
 use Rattle.waiting.specs.Waiting.{holder, Waits, delayed, releasesAt, releasesIn, completesIn, bound}
 use Rattle.waiting.specs.Sharp.{SharpAt, continues, oneWaits, delaysContinues, twoWait, Sharp}
 use Rattle.waiting.proofs.Offers.{count-first}
 use Rattle.waiting.proofs.Waiting.{holds-at-release}
+use Rattle.notation.proofs.Test.{part, equal}
 
 -- ---- the lengths of the arrays, tested
 abbrev pub fits : Machine → Bool

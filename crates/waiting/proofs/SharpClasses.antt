@@ -16,8 +16,8 @@ use Rattle.machine.specs.Clock.{clockWait, clockOne, clockWake, timePasses, yie
 use Rattle.machine.specs.Call.{passed, call0, kernel}
 use Rattle.machine.specs.Step.{step}
 use Rattle.machine.specs.Sound.{inQueue, inCells, atGate, isReady, places, queueOk, classOk, heldOf, gateOk, isAtGates, holdsOk, jobOk, marksOk, processOk, deviceOk, numbersOk, sound}
-use Rattle.machine.specs.Offer.{offerStep, offerTick, Offer, aStep, aTick, offer}
-use Rattle.promises.specs.SoundKept.{Shaped, afterAll}
+use Rattle.machine.specs.Offer.{offerStep, offerTick, Offer, aStep, aTick, offer, afterAll}
+use Rattle.machine.specs.Shape.{Shaped}
 use Rattle.waiting.specs.Count.{countIn}
 use Rattle.waiting.specs.Selection.{selectsFrom, stepEnds, tickEnds}
 use Rattle.waiting.specs.Waiting.{InPlace, selectionsIn, selectionsFrom, bound0, bound2}

@@ -24,7 +24,7 @@ use Rattle.machine.specs.Call.{Called, on, starts, stops, caller, floor, stackW
 use Rattle.machine.specs.Step.{view, halted, called, resulted, step}
 use Rattle.machine.specs.Release.{isCompleted, leavesBy, delaysBy, continuesBy, onEmptyCell, byCall, releases, completes}
 use Rattle.machine.specs.Offer.{offered, Offer, aStep, aTick, aDone, aBell, offer, after}
-use Rattle.promises.proofs.Nearly.{Placed}
+use Rattle.kept.proofs.Nearly.{Placed}
 use Rattle.waiting.specs.Count.{accepted}
 use Rattle.waiting.specs.Waiting.{isStep, releasesAt, completesAt}
 use Rattle.waiting.proofs.Replies.{replyTo, doing, offer-is}

@@ -11,9 +11,8 @@ use Rattle.machine.specs.declared.Machine.{Machine}
 use Rattle.machine.specs.State.{noGate, gate}
 use Rattle.machine.specs.Store.{World}
 use Rattle.machine.specs.Sound.{atGate}
-use Rattle.machine.specs.Offer.{Offer, offer, after}
-use Rattle.promises.specs.SoundKept.{afterAll}
-use Rattle.promises.proofs.Counts.{stands}
+use Rattle.machine.specs.Offer.{Offer, offer, after, afterAll}
+use Rattle.kept.proofs.Counts.{stands}
 use Rattle.waiting.specs.Count.{countIn}
 use Rattle.waiting.specs.Waiting.{holder, Waits, delayed, releasesAt, completesAt, releasesIn, completesIn, WaitsStill, HoldsThen, HoldsAtRelease, HeldWithin, bound, HoldsInTime, BoundHandedOn}
 use Rattle.waiting.proofs.Good.{Good, is-sound, next-good, later-good}

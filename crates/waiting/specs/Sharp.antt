@@ -11,8 +11,8 @@ use Rattle.machine.specs.View.{marks}
 use Rattle.machine.specs.Classes.{select}
 use Rattle.machine.specs.Gate.{enter, leave, makeGate}
 use Rattle.machine.specs.Sound.{sound}
-use Rattle.machine.specs.Offer.{Offer, aStep}
-use Rattle.promises.specs.SoundKept.{Shaped, afterAll}
+use Rattle.machine.specs.Offer.{Offer, aStep, afterAll}
+use Rattle.machine.specs.Shape.{Shaped}
 use Rattle.promises.specs.Table.{child, rests, wakes, twoDelayed}
 use Rattle.waiting.specs.Waiting.{holder, Waits, delayed, completesIn, bound}
 

@@ -15,8 +15,8 @@ use Rattle.machine.specs.State.{nobody, going, newQueue, newGate, newDevice, st
 use Rattle.machine.specs.Store.{World}
 use Rattle.machine.specs.Gate.{entered}
 use Rattle.machine.specs.Sound.{sound}
-use Rattle.machine.specs.Offer.{Offer, aStep, aTick}
-use Rattle.promises.specs.SoundKept.{Shaped, afterAll}
+use Rattle.machine.specs.Offer.{Offer, aStep, aTick, afterAll}
+use Rattle.machine.specs.Shape.{Shaped}
 use Rattle.waiting.specs.Waiting.{InPlace, selectionsIn, bound0, bound2}
 
 -- in the sound world w process i is ready in place k of class c; the offers xs have one selection fewer than n, and after no first

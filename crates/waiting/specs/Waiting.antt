@@ -16,8 +16,8 @@ use Rattle.machine.specs.Store.{World}
 use Rattle.machine.specs.Gate.{cell}
 use Rattle.machine.specs.Release.{releases, completes}
 use Rattle.machine.specs.Sound.{sound}
-use Rattle.machine.specs.Offer.{Offer, aStep, aTick, aDone, aBell, offer, after}
-use Rattle.promises.specs.SoundKept.{Shaped, afterAll}
+use Rattle.machine.specs.Offer.{Offer, aStep, aTick, aDone, aBell, offer, after, afterAll}
+use Rattle.machine.specs.Shape.{Shaped}
 use Rattle.waiting.specs.Count.{accepted, countIn}
 use Rattle.waiting.specs.Selection.{selectsAt, selectsFrom}
 

@@ -3,7 +3,7 @@ use mathlib.Core.Path.{_≡_, sym, _∙_}
 use Prim.Native.Nat.{_-_, _≤_}
 use native.Mathlib.Omega.{arith}
 use borrow.Author.Needs.{needs}
-use Rattle.promises.specs.Marks.{Fit}
+use Rattle.laws.specs.Marks.{Fit}
 use Rattle.engine.specs.Burst.{goesOn}
 use Rattle.engine.specs.Did.{seen}
 use Rattle.engine.proofs.Turns.{ready, spent, fit-again, job-over, goes-on, at-fault, at-call}

@@ -1,7 +1,7 @@
 -- The tests are the definition's in its order, and where `perform` faults the stores are as before, so that `settle` settles it on them.
 use mathlib.Core.Path.{_∙_}
 use borrow.Author.Needs.{needs}
-use Rattle.promises.proofs.Runs.{part}
+use Rattle.notation.proofs.Test.{part}
 use Rattle.engine.proofs.Steps.{settles, past-code, stopped, performed}
 use Rattle.engine.proofs.perform.instruct.Statement.{statement}
 use Rattle.engine.proofs.perform.instruct.Tie as tie

@@ -13,7 +13,7 @@ use Rattle.machine.specs.State.{started, changed, withRegs}
 use Rattle.machine.specs.Gate.{entered, given}
 use Rattle.machine.specs.Clock.{sliced}
 use Rattle.machine.specs.Sound.{jobOk}
-use Rattle.promises.proofs.Counts.{at-set}
+use Rattle.notation.proofs.Cells.{at-set}
 
 -- its marks and its slice, with v variables, where the code has n words
 pub record Ranged (n v slice : ℕ) (r : Regs) : Type 0 where

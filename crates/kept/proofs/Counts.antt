@@ -1,70 +1,30 @@
 -- Laws of lists and of counting: one element anew, sums over a list, the queue, the held gates, and that ten have room for one more
-use mathlib.Core.Path.{_≡_, refl, sym, _∙_}
+use mathlib.Core.Path.{_≡_, refl, _∙_}
 use mathlib.Core.Bool.{Bool, true, false}
 use mathlib.Core.List.{List}
 use Prim.Native.Nat.{ℕ, zero, suc, _+_, _-_, _<_, _≤_}
 use native.Mathlib.Omega.{arith}
 use native.Mathlib.Numerals.{add-one}
-use lib.Dec.{ltb, eqb}
+use lib.Dec.{ltb}
 use lib.ListN.{length, getD, set, length-set}
 use lib.Seq.{getD-set-same, getD-set-other}
-use borrow.Author.Tests.{lt-ltb, ltb-true, eqb-true, eqb-false, eq-eqb, ne-eqb}
+use borrow.Author.Tests.{lt-ltb, ltb-true}
 use Rattle.notation.specs.Upto.{sumTo}
-use Rattle.notation.proofs.Upto.{split, below?, sum-same, sum-last}
+use Rattle.notation.proofs.Upto.{split, below?, sum-same, sum-last, sum-get, sum-none, sum-first, sum-both}
 use Rattle.word.specs.Word.{bit}
 use Rattle.machine.specs.declared.Queue.{Queue}
 use Rattle.machine.specs.declared.Process.{Process}
 use Rattle.machine.specs.Queue.{first, pushed, shifted, rest}
 use Rattle.machine.specs.Gate.{latest, entered, given}
 use Rattle.machine.specs.Sound.{sits, inQueue, heldOf}
-
--- ---- a property of one element, and of all, after element i is anew
-pub at-set : {A : Type 0} (P : A → Type 0) (l : List A) (i : ℕ) (x d : A) (j : ℕ) → i < length l
-    → (j ≡ i → P x) → ((j ≡ i → ⊥) → P (getD l j d)) → P (getD (set l i x) j d)
-at-set P l i x d j b new old =
-    split (eqb j i)
-    (λ t. let e = eqb-true j i t in rw (e, getD-set-same l i x d b) (new e))
-    (λ t. let n = eqb-false j i t in rw (getD-set-other l i j x d n) (old n))
-
-pub all-set : {A : Type 0} (P : ℕ → A → Type 0) (l : List A) (i : ℕ) (x d : A) (n : ℕ) → length l ≡ n → i < n → P i x
-    → ((j : ℕ) → j < n → P j (getD l j d)) → (j : ℕ) → j < n → P j (getD (set l i x) j d)
-all-set P l i x d n e b new old j c = at-set (P j) l i x d j (omega arith) (λ t. rw t new) (λ t. old j c)
+use Rattle.machine.proofs.Sits.{sits-self, sits-other}
 
 -- ---- a test as a number; who sits on a seat
 pub bit-none : (b : Bool) → bit b ≡ 0 → b ≡ false
 bit-none true e = absurd (omega arith)
 bit-none false e = refl
 
-pub sits-self : (q : ℕ) → sits q q ≡ 1
-sits-self q = rw (eq-eqb q q refl)
-
-pub sits-other : (q x : ℕ) → (q ≡ x → ⊥) → sits q x ≡ 0
-sits-other q x n = rw (ne-eqb x q (λ e. n (sym e)))
-
 -- ---- sums
-pub sum-get : (f : ℕ → ℕ) (n k : ℕ) → k < n → f k ≤ sumTo f n
-unfolding sumTo
-sum-get f zero k l = absurd (omega arith)
-sum-get f (suc n) k l =
-    below? k n
-    (λ h. let i = sum-get f n k h in omega arith)
-    (λ h. let e : k ≡ n = omega arith in rw e (omega arith))
-
-pub sum-none : (f : ℕ → ℕ) (n : ℕ) → ((k : ℕ) → k < n → f k ≡ 0) → sumTo f n ≡ 0
-unfolding sumTo
-sum-none f zero h = refl
-sum-none f (suc n) h = let i = sum-none f n (λ k l. h k (omega arith)) in let e = h n (omega arith) in omega arith
-
-sum-first : (f : ℕ → ℕ) (n : ℕ) → sumTo f (suc n) ≡ f 0 + sumTo (λ k. f (suc k)) n
-unfolding sumTo
-sum-first f zero = omega arith
-sum-first f (suc n) = let i = sum-first f n in omega arith
-
-sum-both : (f g : ℕ → ℕ) (n : ℕ) → sumTo (λ k. f k + g k) n ≡ sumTo f n + sumTo g n
-unfolding sumTo
-sum-both f g zero = refl
-sum-both f g (suc n) = let i = sum-both f g n in omega arith
-
 -- of a list with place i anew
 pub sum-set : {A : Type 0} (f : A → ℕ) (l : List A) (d : A) (n i : ℕ) (x : A) → i < n → n ≤ length l
     → sumTo (λ k. f (getD (set l i x) k d)) n + f (getD l i d) ≡ sumTo (λ k. f (getD l k d)) n + f x

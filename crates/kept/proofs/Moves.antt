@@ -8,7 +8,7 @@ use lib.Dec.{ltb, eqb}
 use lib.ListN.{length, getD, set, length-set}
 use borrow.Author.Tests.{eqb-true, eqb-false}
 use Rattle.notation.specs.Upto.{sumTo}
-use Rattle.notation.proofs.Upto.{split, never}
+use Rattle.notation.proofs.Upto.{split, never, sum-get}
 use Rattle.word.specs.Word.{bit}
 use Rattle.machine.specs.declared.Queue.{Queue}
 use Rattle.machine.specs.declared.Gate.{Gate}
@@ -21,10 +21,12 @@ use Rattle.machine.specs.Classes.{setRunning, push, pull, wake}
 use Rattle.machine.specs.Gate.{latest, entered, given, join, advance, sit, grant, giveUp}
 use Rattle.machine.specs.Device.{withDevice}
 use Rattle.machine.specs.Sound.{sits, inQueue, inCells, atGate, isReady, places, heldOf, isAtGates}
-use Rattle.promises.proofs.Counts.{at-set, all-set, Lined, lined-as, pushed-lined, rest-lined, in-pushed, in-rest, has-room, held-holding, held-dropping, sits-self, sits-other, sum-get, sum-set}
-use Rattle.promises.proofs.Steady.{Steady, ended, steady-holding, steady-dropping, steady-ended}
-use Rattle.promises.proofs.Nearly.{Known, Tended, Unused, Gates, InClass, works, waits, Nearly, known-nobody, known-one, nobody-sits, Alone, in-hand, in-ready, at-gate, no-gate, Free, not-free}
-use Rattle.promises.proofs.Frames.{seated, queued, rebuilt, recounted}
+use Rattle.kept.proofs.Counts.{Lined, lined-as, pushed-lined, rest-lined, in-pushed, in-rest, has-room, held-holding, held-dropping, sum-set}
+use Rattle.kept.proofs.Steady.{Steady, ended, steady-holding, steady-dropping, steady-ended}
+use Rattle.kept.proofs.Nearly.{Known, Tended, Unused, Gates, InClass, works, waits, Nearly, known-nobody, known-one, nobody-sits, Alone, in-hand, in-ready, at-gate, no-gate, Free, not-free}
+use Rattle.kept.proofs.Frames.{seated, queued, rebuilt, recounted}
+use Rattle.notation.proofs.Cells.{at-set, all-set}
+use Rattle.machine.proofs.Sits.{sits-self, sits-other}
 
 -- nobody in hand
 pub empty-hand : {m : Machine} {h x : ℕ} → nobody ≤ h → Nearly m h x → Nearly m nobody x

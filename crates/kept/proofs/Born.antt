@@ -7,7 +7,7 @@ use native.Mathlib.Omega.{arith}
 use lib.ListN.{length, getD, length-set}
 use borrow.Author.Tests.{lt-ltb}
 use Rattle.notation.specs.Upto.{sumTo}
-use Rattle.notation.proofs.Upto.{never}
+use Rattle.notation.proofs.Upto.{never, sum-none}
 use Rattle.word.specs.Word.{bit}
 use Rattle.machine.specs.declared.Queue.{Queue}
 use Rattle.machine.specs.declared.Gate.{Gate}
@@ -16,9 +16,11 @@ use Rattle.machine.specs.declared.Machine.{Machine}
 use Rattle.machine.specs.State.{nobody, noProcess, gate, ready, device, started}
 use Rattle.machine.specs.Call.{born}
 use Rattle.machine.specs.Sound.{sits, inQueue, inCells, atGate, isReady, places, heldOf, isAtGates}
-use Rattle.promises.proofs.Counts.{at-set, all-set, Lined, lined-as, sits-self, sits-other, sum-none}
-use Rattle.promises.proofs.Steady.{Steady, steady-started}
-use Rattle.promises.proofs.Nearly.{Known, Tended, waits, Nearly, known-one, nobody-sits}
+use Rattle.kept.proofs.Counts.{Lined, lined-as}
+use Rattle.kept.proofs.Steady.{Steady, steady-started}
+use Rattle.kept.proofs.Nearly.{Known, Tended, waits, Nearly, known-one, nobody-sits}
+use Rattle.notation.proofs.Cells.{at-set, all-set}
+use Rattle.machine.proofs.Sits.{sits-self, sits-other}
 
 -- who is known among n stays so among n + 1, and the one more is in no place yet
 known-more : {n x : ℕ} → Known n x → Known (n + 1) x

@@ -18,7 +18,7 @@ use Rattle.machine.specs.Classes.{setRunning, wake, someReady}
 use Rattle.machine.specs.Gate.{enter, leave, delay, continue, mayEnter, mayLeave, mayDelay, mayContinue}
 use Rattle.machine.specs.Device.{isPresent, isBusy}
 use Rattle.machine.specs.Call.{Called, on, starts, stops, caller, floor, stackWord, hasWords, hasRoom, passed, popped, same, withTop, born, createProcess, newPart, stopAnswer, stopJob, reports, onGate, onCell, ioBegins, call0, call1, call2, call3, call4, call5, call6, call7, call8, call9, call10, call11, kernel}
-use Rattle.promises.proofs.Fixed.{Fixed, unchanged, also, fixed-running, fixed-wake, fixed-enter, fixed-leave, fixed-delay, fixed-continue, fixed-make, fixed-clock-wait, fixed-bell-wait, fixed-device-start, fixed-finish}
+use Rattle.kept.proofs.Fixed.{Fixed, unchanged, also, fixed-running, fixed-wake, fixed-enter, fixed-leave, fixed-delay, fixed-continue, fixed-make, fixed-clock-wait, fixed-bell-wait, fixed-device-start, fixed-finish}
 
 -- ---- of the machine: a process that does not run keeps its registers, where a stop is pending
 pub record Spared (m m′ : Machine) : Type 0 where

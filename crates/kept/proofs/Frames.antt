@@ -17,9 +17,11 @@ use Rattle.machine.specs.declared.Device.{Device}
 use Rattle.machine.specs.declared.Machine.{Machine}
 use Rattle.machine.specs.State.{nobody, noGate, noProcess, proc, gate, ready, parts, timed, counted, with}
 use Rattle.machine.specs.Sound.{sits, inQueue, atGate, isReady, places, heldOf, isAtGates}
-use Rattle.promises.proofs.Steady.{Steady}
-use Rattle.promises.proofs.Counts.{at-set, all-set, Lined, lined-as, sits-other, sum-set}
-use Rattle.promises.proofs.Nearly.{Known, Gates, Classes, Devices, Tended, Unused, waits, Nearly, Free, not-free}
+use Rattle.kept.proofs.Steady.{Steady}
+use Rattle.kept.proofs.Counts.{Lined, lined-as, sum-set}
+use Rattle.kept.proofs.Nearly.{Known, Gates, Classes, Devices, Tended, Unused, waits, Nearly, Free, not-free}
+use Rattle.notation.proofs.Cells.{at-set, all-set}
+use Rattle.machine.proofs.Sits.{sits-other}
 
 -- ---- a change of running, ready, clock, bell and devices only
 abbrev pub seats : Machine → List Queue → Queue → Queue → List Device → ℕ → Machine

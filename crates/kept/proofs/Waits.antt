@@ -16,12 +16,12 @@ use Rattle.machine.specs.Classes.{setRunning, push, wake, setClass, someReady, 
 use Rattle.machine.specs.Clock.{clockWait, bellWait, clockOne, clockWake, bellOne, bellWake, nextSecond, timePasses, fallen, sliced, yields, slicePasses, tick, bell}
 use Rattle.machine.specs.Device.{withDevice, deviceStart, deviceEnd}
 use Rattle.machine.specs.Call.{born, createProcess, finish}
-use Rattle.promises.proofs.Steady.{Steady, steady-sliced}
-use Rattle.promises.proofs.Nearly.{works, Nearly, Placed, Sound, Alone, in-hand, in-run}
-use Rattle.promises.proofs.Moves.{empty-hand, unmark, take-running, put-running, put-ready, line, withLine, lined, put-line, take-line, seat, put-device, remade, finished}
-use Rattle.promises.proofs.Frames.{retimed}
-use Rattle.promises.proofs.Born.{one-born}
-use Rattle.promises.proofs.Selected.{select-sound}
+use Rattle.kept.proofs.Steady.{Steady, steady-sliced}
+use Rattle.kept.proofs.Nearly.{works, Nearly, Placed, Sound, Alone, in-hand, in-run}
+use Rattle.kept.proofs.Moves.{empty-hand, unmark, take-running, put-running, put-ready, line, withLine, lined, put-line, take-line, seat, put-device, remade, finished}
+use Rattle.kept.proofs.Frames.{retimed}
+use Rattle.kept.proofs.Born.{one-born}
+use Rattle.kept.proofs.Selected.{select-sound}
 
 -- ---- the running process, in no job, waits
 module _ {m : Machine} (runs : m .running < nobody) (free : (proc m (m .running)) .regs .«in_job» ≡ false) (f : Placed m) where

@@ -14,12 +14,12 @@ use Rattle.machine.specs.Store.{World, placeOf, whole, wordIn}
 use Rattle.machine.specs.Gate.{latest, cell, enter, leave, delay, continue, mayEnter, mayLeave, mayDelay, mayContinue}
 use Rattle.machine.specs.Device.{isPresent, isBusy}
 use Rattle.machine.specs.Call.{Called, on, starts, stops, caller, floor, stackWord, hasWords, hasRoom, passed, popped, onGate, onCell, ioBegins, call0, call1, call2, call3, call4, call5, call6, call7, call8, call9, call10, call11, kernel}
-use Rattle.promises.proofs.Runs.{part, equal}
-use Rattle.promises.proofs.Steady.{Ranged}
-use Rattle.promises.proofs.Nearly.{Placed}
-use Rattle.promises.proofs.Gates.{Mine, enter-kept, leave-kept, delay-kept, continue-kept, make-kept}
-use Rattle.promises.proofs.Waits.{clock-wait-kept, bell-wait-kept, device-start-kept, finish-kept, create-kept}
-use Rattle.promises.proofs.Registers.{passed-kept, passed-proc, stop-kept}
+use Rattle.notation.proofs.Test.{part, equal}
+use Rattle.kept.proofs.Steady.{Ranged}
+use Rattle.kept.proofs.Nearly.{Placed}
+use Rattle.kept.proofs.Gates.{Mine, enter-kept, leave-kept, delay-kept, continue-kept, make-kept}
+use Rattle.kept.proofs.Waits.{clock-wait-kept, bell-wait-kept, device-start-kept, finish-kept, create-kept}
+use Rattle.kept.proofs.Registers.{passed-kept, passed-proc, stop-kept}
 
 -- ---- what a call may do
 pub data Fine : Called → Type 0 where

@@ -8,7 +8,7 @@ use lib.Dec.{leb, eqb}
 use lib.ListN.{length, getD}
 use lib.Seq.{getD-set-same}
 use borrow.Author.Tests.{eqb-true, eqb-false, leb-true, leb-false, lt-ltb}
-use Rattle.notation.proofs.Upto.{split}
+use Rattle.notation.proofs.Upto.{split, sum-get}
 use Rattle.machine.specs.declared.Queue.{Queue}
 use Rattle.machine.specs.declared.Gate.{Gate}
 use Rattle.machine.specs.declared.Machine.{Machine}
@@ -17,10 +17,11 @@ use Rattle.machine.specs.Queue.{first}
 use Rattle.machine.specs.Classes.{setRunning}
 use Rattle.machine.specs.Gate.{latest, given, advance, sit, giveUp, pass, handOn, enter, leave, delay, cell, continue, makeGate}
 use Rattle.machine.specs.Sound.{sits, inCells, atGate}
-use Rattle.promises.proofs.Counts.{stands, sits-self, sum-get}
-use Rattle.promises.proofs.Nearly.{Nearly, Placed, in-hand, in-run}
-use Rattle.promises.proofs.Moves.{empty-hand, take-running, put-ready, put-queue, take-queue, put-cell, granted, given-up, latest-held, gate-free, gate-room}
-use Rattle.promises.proofs.Frames.{closed, one-made}
+use Rattle.kept.proofs.Counts.{stands}
+use Rattle.kept.proofs.Nearly.{Nearly, Placed, in-hand, in-run}
+use Rattle.kept.proofs.Moves.{empty-hand, take-running, put-ready, put-queue, take-queue, put-cell, granted, given-up, latest-held, gate-free, gate-room}
+use Rattle.kept.proofs.Frames.{closed, one-made}
+use Rattle.machine.proofs.Sits.{sits-self}
 
 -- ---- a gate passes on
 -- the one in hand becomes holder of the open gate g, and is ready

@@ -13,11 +13,12 @@ use Rattle.image.specs.Header.{goodHeader}
 use Rattle.machine.specs.declared.Machine.{Machine}
 use Rattle.machine.specs.State.{nobody, noQueue, noGate, noProcess, noDevice, newQueue, newGate, newDevice, proc, gate, started, fresh}
 use Rattle.machine.specs.Sound.{sits, inQueue, inCells, atGate, isReady, isAtGates, places, heldOf}
-use Rattle.promises.proofs.Runs.{part, at-most}
-use Rattle.promises.proofs.Counts.{all-set, Lined}
-use Rattle.promises.proofs.Steady.{Steady, steady-started}
-use Rattle.promises.proofs.Nearly.{Known, Tended, Unused, InClass, waits, Sound, known-nobody, known-one}
-use Rattle.promises.proofs.Born.{started-none}
+use Rattle.notation.proofs.Test.{part, at-most}
+use Rattle.kept.proofs.Counts.{Lined}
+use Rattle.kept.proofs.Steady.{Steady, steady-started}
+use Rattle.kept.proofs.Nearly.{Known, Tended, Unused, InClass, waits, Sound, known-nobody, known-one}
+use Rattle.kept.proofs.Born.{started-none}
+use Rattle.notation.proofs.Cells.{all-set}
 
 -- what holds of one holds of each of n alike
 alike : {A : Type 0} (P : A → Type 0) (n : ℕ) (x d : A) → P x → (k : ℕ) → k < n → P (getD (replicate n x) k d)

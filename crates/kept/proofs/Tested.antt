@@ -19,11 +19,12 @@ use Rattle.machine.specs.declared.Machine.{Machine}
 use Rattle.machine.specs.State.{nobody, going, proc, gate, ready, device}
 use Rattle.machine.specs.Device.{isBusy}
 use Rattle.machine.specs.Sound.{sits, atGate, isReady, places, queueOk, someone, classOk, heldOf, gateOk, isAtGates, holdsOk, jobOk, marksOk, processOk, deviceOk, numbersOk, sound}
-use Rattle.promises.specs.SoundKept.{Shaped}
-use Rattle.promises.proofs.Runs.{part, at-most, equal, second}
-use Rattle.promises.proofs.Counts.{Lined, lined-as, sits-other}
-use Rattle.promises.proofs.Steady.{Ranged, Steady}
-use Rattle.promises.proofs.Nearly.{Known, Tended, Unused, InClass, works, Numbers, waits, Placed, Sound, known-nobody, known-one, nobody-sits}
+use Rattle.machine.specs.Shape.{Shaped}
+use Rattle.notation.proofs.Test.{part, at-most, equal, second}
+use Rattle.kept.proofs.Counts.{Lined, lined-as}
+use Rattle.kept.proofs.Steady.{Ranged, Steady}
+use Rattle.kept.proofs.Nearly.{Known, Tended, Unused, InClass, works, Numbers, waits, Placed, Sound, known-nobody, known-one, nobody-sits}
+use Rattle.machine.proofs.Sits.{sits-other}
 
 -- ---- tests
 or-else : (a b : Bool) → (a ≡ false → b ≡ true) → a || b ≡ true

@@ -6,7 +6,7 @@ use Prim.Native.Nat.{ℕ, _*_, _<_, _≤_}
 use native.Mathlib.Omega.{arith}
 use lib.Dec.{eqb}
 use lib.ListN.{length}
-use borrow.Author.Tests.{lt-leb, eqb-true, eq-eqb}
+use borrow.Author.Tests.{lt-leb, le-leb, eqb-true, eq-eqb}
 use Rattle.notation.proofs.Upto.{both}
 use Rattle.image.specs.Refusal.{_then_}
 use Rattle.image.specs.Read.{refuse}
@@ -19,13 +19,14 @@ use Rattle.machine.specs.Step.{view, Ended, onward, idle, starting, Stepped, st
 use Rattle.machine.specs.Sound.{sound}
 use Rattle.machine.specs.Run.{run}
 use Rattle.machine.specs.Offer.{storesFit, refusal6Code, refusal7, refusal8, did, offered, offerStep, offerRun}
-use Rattle.promises.specs.Marks.{Fit}
-use Rattle.promises.specs.SoundKept.{Shaped}
-use Rattle.promises.proofs.Runs.{equal, running-fit}
-use Rattle.promises.proofs.Marks.{stores-kept}
-use Rattle.promises.proofs.SoundKept.{step-good}
-use Rattle.promises.proofs.Fixed.{fixed-select}
-use Rattle.promises.proofs.Spares.{by-fixed, spared-running, Kept, Keeps, goes, begins, halts, length-part, keeps}
+use Rattle.laws.specs.Marks.{Fit}
+use Rattle.machine.specs.Shape.{Shaped}
+use Rattle.laws.proofs.Runs.{running-fit}
+use Rattle.laws.proofs.Marks.{stores-kept}
+use Rattle.kept.proofs.SoundKept.{step-good}
+use Rattle.kept.proofs.Fixed.{fixed-select}
+use Rattle.kept.proofs.Spares.{by-fixed, spared-running, Kept, Keeps, goes, begins, halts, length-part, keeps}
+use Rattle.notation.proofs.Test.{equal}
 
 -- the state is sound, and the stores and the code are of their lengths
 pub record Able (code : List ℕ) (w : World) : Type 0 where
@@ -163,3 +164,8 @@ pub run-took : (code : List ℕ) (budget : ℕ) (w : World) (s : Stepped) → Sh
     → Took code w (run code budget w) s
 unfolding offerRun
 run-took code budget w s shape e = took code w (run code budget w) s shape e
+
+-- an idle machine
+pub idle-step : (code : List ℕ) (w : World) → nobody ≤ w .machine .running → step code w ≡ stepped w idle 0
+unfolding step
+idle-step code w h = rw (le-leb nobody (w .machine .running) h)

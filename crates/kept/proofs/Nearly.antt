@@ -8,7 +8,7 @@ use native.Mathlib.Omega.{arith}
 use lib.Dec.{leb, eqb}
 use lib.ListN.{length, getD}
 use Rattle.notation.specs.Upto.{sumTo}
-use Rattle.notation.proofs.Upto.{never}
+use Rattle.notation.proofs.Upto.{never, sum-get}
 use Rattle.word.specs.Word.{bit}
 use Rattle.image.specs.Header.{goodHeader}
 use Rattle.machine.specs.declared.Queue.{Queue}
@@ -19,8 +19,9 @@ use Rattle.machine.specs.declared.Machine.{Machine}
 use Rattle.machine.specs.State.{nobody, noQueue, noGate, noProcess, noDevice, proc, gate, ready, device}
 use Rattle.machine.specs.Store.{whole}
 use Rattle.machine.specs.Sound.{sits, inQueue, atGate, isReady, places, heldOf, isAtGates}
-use Rattle.promises.proofs.Steady.{Steady}
-use Rattle.promises.proofs.Counts.{Lined, bit-none, sits-self, sits-other, sum-get}
+use Rattle.kept.proofs.Steady.{Steady}
+use Rattle.kept.proofs.Counts.{Lined, bit-none}
+use Rattle.machine.proofs.Sits.{sits-self, sits-other}
 
 -- ---- the parts, each with what it depends on
 -- nobody, or one of the n created

@@ -18,18 +18,20 @@ use Rattle.machine.specs.Call.{Called}
 use Rattle.machine.specs.Device.{isBusy, deviceDone}
 use Rattle.machine.specs.Step.{view, halted, called, resulted, step}
 use Rattle.machine.specs.Sound.{sound}
-use Rattle.machine.specs.Offer.{storesFit, offerStep, offerTick, offerBell, offerDone, after, aStep, aTick, aDone, aBell, offer}
-use Rattle.promises.specs.SoundKept.{Shaped, FreshSound, SoundKept, afterAll, SoundOverAll}
-use Rattle.promises.proofs.Runs.{equal, running-fit}
-use Rattle.promises.proofs.Marks.{Marked, marked}
-use Rattle.promises.proofs.Nearly.{Sound}
-use Rattle.promises.proofs.Frames.{retimed}
-use Rattle.promises.proofs.Selected.{select-sound}
-use Rattle.promises.proofs.Waits.{device-end-kept, tick-sound, bell-sound}
-use Rattle.promises.proofs.Tested.{tested, complete, shaped}
-use Rattle.promises.proofs.Registers.{reset-running}
-use Rattle.promises.proofs.Fresh.{fresh-placed}
-use Rattle.promises.proofs.Calls.{Fine, goes, begins, halts, fine}
+use Rattle.machine.specs.Offer.{storesFit, offerStep, offerTick, offerBell, offerDone, after, aStep, aTick, aDone, aBell, offer, afterAll}
+use Rattle.kept.specs.SoundKept.{FreshSound, SoundKept, SoundOverAll}
+use Rattle.laws.proofs.Runs.{running-fit}
+use Rattle.laws.proofs.Marks.{Marked, marked}
+use Rattle.kept.proofs.Nearly.{Sound}
+use Rattle.kept.proofs.Frames.{retimed}
+use Rattle.kept.proofs.Selected.{select-sound}
+use Rattle.kept.proofs.Waits.{device-end-kept, tick-sound, bell-sound}
+use Rattle.kept.proofs.Tested.{tested, complete, shaped}
+use Rattle.kept.proofs.Registers.{reset-running}
+use Rattle.kept.proofs.Fresh.{fresh-placed}
+use Rattle.kept.proofs.Calls.{Fine, goes, begins, halts, fine}
+use Rattle.machine.specs.Shape.{Shaped}
+use Rattle.notation.proofs.Test.{equal}
 
 -- ---- a step
 -- a fault or call 2 changes nothing but the stop and its line

@@ -16,10 +16,10 @@ use Rattle.machine.specs.State.{nobody, noProcess, proc, withProcess, withRegs}
 use Rattle.machine.specs.View.{marks}
 use Rattle.machine.specs.Call.{passed, stopAnswer, stopping, stopJob}
 use Rattle.machine.specs.Sound.{jobOk}
-use Rattle.promises.proofs.Runs.{in-job}
-use Rattle.promises.proofs.Steady.{Ranged, Steady, steady-regs}
-use Rattle.promises.proofs.Nearly.{waits, Nearly, Placed, in-run}
-use Rattle.promises.proofs.Moves.{remade}
+use Rattle.laws.proofs.Runs.{in-job}
+use Rattle.kept.proofs.Steady.{Ranged, Steady, steady-regs}
+use Rattle.kept.proofs.Nearly.{waits, Nearly, Placed, in-run}
+use Rattle.kept.proofs.Moves.{remade}
 
 -- a process in a job holds none, and runs or is ready
 reset : {m : Machine} {h x : ℕ} (q : ℕ) (r : Regs) → q < m .created

@@ -19,10 +19,11 @@ use Rattle.machine.specs.View.{View, Out, next, faults, calls, Effect, effect, 
 use Rattle.machine.specs.Job.{endJob, takesStop}
 use Rattle.machine.specs.Instruction.{newline, pushconst, pushind, copyword, localaddr, pop, index, range, unary, binary, jump, falsejump, toCase, casejump, call, enter, exit, callprog, exitprog, ktrap, perform, execute, settled, instruct}
 use Rattle.machine.specs.Sound.{jobOk}
-use Rattle.promises.specs.Marks.{Ordered, Fit, MarksKept, StoresKept, JobRegion}
-use Rattle.promises.proofs.Rows.{row-sets}
-use Rattle.promises.proofs.SmallFaults.{Small, a-word, a-fault, fitted-small, range-small, index-small, case-small, unary-small, binary-small, fetched-small}
-use Rattle.promises.proofs.Runs.{part, at-most, in-job, job-starts, job-high}
+use Rattle.laws.specs.Marks.{Ordered, Fit, MarksKept, StoresKept, JobRegion}
+use Rattle.laws.proofs.Rows.{row-sets}
+use Rattle.laws.proofs.SmallFaults.{Small, a-word, a-fault, fitted-small, range-small, index-small, case-small, unary-small, binary-small, fetched-small}
+use Rattle.laws.proofs.Runs.{in-job, job-starts, job-high}
+use Rattle.notation.proofs.Test.{part, at-most}
 
 -- ---- what an instruction keeps: the marks where the process goes on, the common store, its own part
 -- who starts a job holds no gate; who calls the kernel is in no job, and its address may pass the call; a fault is at most 9

@@ -1,14 +1,14 @@
 -- What a sound state tells of the process that runs: its marks are in order, and its job's registers in their ranges
-use mathlib.Core.Path.{_≡_, refl, sym, _∙_}
-use mathlib.Core.Bool.{Bool, true, false, _&&_, _||_, and-false}
+use mathlib.Core.Path.{_≡_}
+use mathlib.Core.Bool.{Bool, true, _&&_, _||_, and-false}
 use mathlib.Core.List.{List}
 use Prim.Native.Nat.{ℕ, _+_, _<_, _≤_}
 use native.Mathlib.Omega.{arith}
 use lib.Dec.{leb, eqb}
 use lib.ListN.{length, length-take, length-drop}
-use borrow.Author.Tests.{ltb-true, leb-true, eqb-true, eq-eqb, ne-eqb, le-leb, lt-leb}
+use borrow.Author.Tests.{ltb-true, eq-eqb, ne-eqb, le-leb, lt-leb}
 use Rattle.notation.specs.Upto.{allTo}
-use Rattle.notation.proofs.Upto.{split, never, all-at}
+use Rattle.notation.proofs.Upto.{split, all-at}
 use Rattle.machine.specs.declared.Regs.{Regs}
 use Rattle.machine.specs.declared.Process.{Process}
 use Rattle.machine.specs.declared.Machine.{Machine}
@@ -17,21 +17,8 @@ use Rattle.machine.specs.Store.{World}
 use Rattle.machine.specs.Step.{view}
 use Rattle.machine.specs.Sound.{someone, jobOk, marksOk, processOk, numbersOk, sound}
 use Rattle.machine.specs.Offer.{storesFit}
-use Rattle.promises.specs.Marks.{Ordered, Fit}
-
--- a test without which a whole that holds would fail; the second of two, of which the first fails
-pub part : {whole : Bool} (t : Bool) → whole ≡ true → (t ≡ false → whole ≡ false) → t ≡ true
-part true e f = refl
-part false e f = never (sym e ∙ f refl)
-
-pub at-most : {whole : Bool} (a b : ℕ) → whole ≡ true → (leb a b ≡ false → whole ≡ false) → a ≤ b
-at-most a b e f = leb-true a b (part (leb a b) e f)
-
-pub equal : {whole : Bool} (a b : ℕ) → whole ≡ true → (eqb a b ≡ false → whole ≡ false) → a ≡ b
-equal a b e f = eqb-true a b (part (eqb a b) e f)
-
-pub second : (a b : Bool) → a || b ≡ true → a ≡ false → b ≡ true
-second a b e f = rw f at e
+use Rattle.laws.specs.Marks.{Ordered, Fit}
+use Rattle.notation.proofs.Test.{part, at-most, equal, second}
 
 -- ---- the registers of a job
 pub record InJob (n : ℕ) (r : Regs) : Type 0 where

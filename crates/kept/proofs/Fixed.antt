@@ -1,22 +1,22 @@
 -- What the moves of the kernel leave: the stop, the code length, how many processes there are, and everybody's registers
-use mathlib.Core.Path.{_≡_, refl, ap, _∙_}
+use mathlib.Core.Path.{_≡_, refl, _∙_}
 use mathlib.Core.Bool.{Bool}
 use mathlib.Core.List.{List}
 use Prim.Native.Nat.{ℕ, zero, suc, _+_}
-use lib.Dec.{ltb, leb, eqb}
+use lib.Dec.{leb, eqb}
 use lib.ListN.{length, getD, set}
-use lib.Seq.{getD-set-same, getD-set-other, set-out}
-use borrow.Author.Tests.{eqb-true, eqb-false}
 use Rattle.notation.specs.If.{if}
-use Rattle.notation.proofs.Upto.{split, below?}
+use Rattle.notation.proofs.Upto.{split}
 use Rattle.machine.specs.declared.Process.{Process}
 use Rattle.machine.specs.declared.Machine.{Machine}
 use Rattle.machine.specs.State.{nobody, noProcess, proc, gate, timed, counted, withProcess}
 use Rattle.machine.specs.Classes.{setRunning, push, pull, wake, setClass, best, start, source, selection, aside, selects, select}
-use Rattle.machine.specs.Gate.{entered, given, join, advance, sit, grant, giveUp, pass, handOn, enter, leave, delay, cell, continue, makeGate}
+use Rattle.machine.specs.Gate.{given, join, advance, sit, grant, giveUp, pass, handOn, enter, leave, delay, cell, continue, makeGate}
 use Rattle.machine.specs.Clock.{clockWait, bellWait, clockOne, clockWake, bellOne, bellWake, nextSecond, timePasses, yields, slicePasses, tick, bell}
 use Rattle.machine.specs.Device.{withDevice, deviceStart, deviceEnd}
 use Rattle.machine.specs.Call.{finish}
+use Rattle.notation.proofs.Cells.{set-keeps}
+use Rattle.machine.proofs.Registers.{entered-regs}
 
 pub record Fixed (m m′ : Machine) : Type 0 where
   pub stop : m′ .stop ≡ m .stop
@@ -38,15 +38,6 @@ also a b =
 
 either : (b : Bool) {m x y : Machine} → Fixed m x → Fixed m y → Fixed m (if b x y)
 either b s t = split b (λ e. rw e s) (λ e. rw e t)
-
--- ---- one part of a list changes, but for what is asked of it
-pub set-keeps : {A B : Type 0} (f : A → B) (l : List A) (i : ℕ) (x d : A) → f x ≡ f (getD l i d) → (k : ℕ) → f (getD (set l i x) k d) ≡ f (getD l k d)
-set-keeps f l i x d e k =
-    below? i (length l)
-    (λ l′. split (eqb k i)
-    (λ t. let z = eqb-true k i t in rw z (ap f (getD-set-same l i x d l′) ∙ e))
-    (λ t. ap f (getD-set-other l i k x d (eqb-false k i t))))
-    (λ l′. rw (set-out l i x l′))
 
 -- one process changes, but for its registers
 pub set-regs : (ps : List Process) (i : ℕ) (p : Process) → p .regs ≡ (getD ps i noProcess) .regs
@@ -91,10 +82,6 @@ fixed-select m =
     either (selects m) (also (fixed-aside m) (fixed-selection _)) unchanged
 
 -- ---- gates
-entered-regs : (p : Process) (g : ℕ) → (entered p g) .regs ≡ p .regs
-unfolding entered
-entered-regs p g = split (ltb (p .holds) 8) (λ e. rw e) (λ e. rw e)
-
 module _ (m : Machine) (g : ℕ) where
   fixed-grant : (h : ℕ) → Fixed m (grant m g h)
   unfolding grant

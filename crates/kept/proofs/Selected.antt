@@ -10,9 +10,9 @@ use Rattle.notation.proofs.Upto.{split, both, below?}
 use Rattle.machine.specs.declared.Machine.{Machine}
 use Rattle.machine.specs.State.{nobody, noQueue, proc, ready}
 use Rattle.machine.specs.Classes.{setRunning, push, pull, wake, someReady, best, start, due, source, countFrom, selection, aside, selects, select}
-use Rattle.promises.proofs.Nearly.{Placed, Sound}
-use Rattle.promises.proofs.Frames.{recounted}
-use Rattle.promises.proofs.Moves.{take-running, put-running, put-ready, take-ready}
+use Rattle.kept.proofs.Nearly.{Placed, Sound}
+use Rattle.kept.proofs.Frames.{recounted}
+use Rattle.kept.proofs.Moves.{take-running, put-running, put-ready, take-ready}
 
 start-kept : {m : Machine} (c : ℕ) → c < 3 → nobody ≤ m .running → 0 < (ready m c) .len → Placed m → Placed (start m c)
 unfolding start pull

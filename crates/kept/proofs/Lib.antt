@@ -1,0 +1,17 @@
+pub mod Counts
+pub mod Steady
+pub mod Nearly
+pub mod Frames
+pub mod Moves
+pub mod Born
+pub mod Gates
+pub mod Selected
+pub mod Waits
+pub mod Tested
+pub mod Registers
+pub mod Calls
+pub mod Fresh
+pub mod SoundKept
+pub mod Fixed
+pub mod Spares
+pub mod Stepping

@@ -1,0 +1,1 @@
+// No code: soundness is kept by every move, in specs/; its proofs in proofs/.
