@@ -10,7 +10,7 @@ use crate::stack::{Out, wide};
 use machine::{Machine, Regs};
 
 // How a burst ends: a kernel call and a fault are left to be done.
-#[derive(Drop)]
+#[derive(Clone, Copy)]
 pub enum End {
     Budget,
     Call(u16),
@@ -19,7 +19,7 @@ pub enum End {
     Unfit,
 }
 
-#[derive(Drop)]
+#[derive(Clone, Copy)]
 pub struct Burst {
     pub regs: Regs,
     pub count: u32,

@@ -11,7 +11,7 @@ use machine::{Machine, Regs};
 use word::{Answer, fault};
 
 // The place that an address names.
-#[derive(Drop)]
+#[derive(Clone, Copy)]
 pub(crate) enum Place {
     Common(usize),
     Own(usize),

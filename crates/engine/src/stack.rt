@@ -9,7 +9,7 @@ use machine::Regs;
 use word::{Answer, fault};
 
 // The process goes on with its registers; a fault; KTRAP calls the kernel.
-#[derive(Drop)]
+#[derive(Clone, Copy)]
 pub enum Out {
     Next(Regs),
     Fault(u16),

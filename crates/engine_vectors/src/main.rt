@@ -1,4 +1,6 @@
 // Runs one instruction of every kind, with each of its faults, in and out of a job, and says what it did.
+#![tactic(auto)]
+
 ghost use Rattle.std.specs.Prelude.{◌<◌};
 
 use engine::End;

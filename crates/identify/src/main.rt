@@ -1,4 +1,6 @@
 // Says of each file that it is given what image it is: accepted, with its header, or refused, and why.
+#![tactic(auto)]
+
 use image::{Header, Reading};
 use shown::{Line, say};
 

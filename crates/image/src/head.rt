@@ -11,7 +11,7 @@ const REST: usize = CONTENT - 4;
 
 const ROUND_UP: usize = CONTENT - 1;
 
-#[derive(Drop)]
+#[derive(Clone, Copy)]
 pub struct Header {
     pub edition: u16,
     pub length: u16,

@@ -1,4 +1,6 @@
 // Images: blocks, the header, reading and writing. Document 01, "Image".
+#![tactic(auto)]
+
 mod block;
 mod head;
 mod reader;

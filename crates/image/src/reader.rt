@@ -10,7 +10,7 @@ use crate::head::Header;
 use crate::table::{Check, Refusal};
 use crate::{block, head};
 
-#[derive(Drop)]
+#[derive(Clone, Copy)]
 pub enum Reading {
     Accepted(Header),
     Refused(Refusal),

@@ -11,7 +11,7 @@ use crate::reader::check_room;
 use crate::table::{Check, Refusal};
 use crate::{block, head};
 
-#[derive(Drop)]
+#[derive(Clone, Copy)]
 pub enum Writing {
     Written(usize),
     Refused(Refusal),

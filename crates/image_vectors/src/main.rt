@@ -1,4 +1,6 @@
 // Runs reading and writing on the whole example of document 01, and on images that break one or two of its rules.
+#![tactic(auto)]
+
 use image::{Header, Reading, Refusal, Writing};
 use libc::STDOUT_FILENO;
 

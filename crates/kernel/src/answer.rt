@@ -9,7 +9,7 @@ use machine::Process;
 
 // Nothing, where the caller or a store is not fit to begin; a stop with its number and line; nothing more than the caller's record;
 // or a move of the machine.
-#[derive(Drop)]
+#[derive(Clone, Copy)]
 pub enum Act {
     Unfit,
     Stop(u8, u16),
@@ -27,7 +27,7 @@ pub enum Act {
     Start(u8, u8, u16),
 }
 
-#[derive(Drop)]
+#[derive(Clone, Copy)]
 pub struct Decision {
     pub process: Process,
     pub act: Act,

@@ -6,7 +6,7 @@ use machine::{Device, Machine, Process, Regs};
 
 // What a call is told of the machine by who has it in hand: the caller's number and record, and the fields that calls read. A
 // call is given no machine, since each function that is given one and indexes it keeps a copy of it.
-#[derive(Drop)]
+#[derive(Clone, Copy)]
 pub struct Caller {
     pub number: u8,
     pub process: Process,

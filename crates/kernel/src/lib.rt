@@ -1,4 +1,6 @@
 // The kernel calls of document 01, numbers 0 to 11, by the running process, and the done event, on the machine and its two lent stores.
+#![tactic(auto)]
+
 mod answer;
 mod call;
 mod caller;

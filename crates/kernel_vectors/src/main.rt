@@ -1,4 +1,6 @@
 // Runs each kernel call with each of its faults, each event, the selection and the limits, and says the state after each.
+#![tactic(auto)]
+
 ghost use Rattle.std.specs.Prelude.{◌<◌};
 
 use image::Header;

@@ -1,4 +1,6 @@
 // The machine's state as a slice of words. The layout is in specs/Layout.antt.
+#![tactic(auto)]
+
 ghost use Rattle.std.specs.Prelude.{◌≡◌, length, eqb};
 ghost use Rattle.notation.specs.If.{if};
 ghost use Rattle.layout.specs.Layout.{packed, unpacked_if, state_words};
@@ -15,7 +17,7 @@ mod test;
 pub const WORDS: usize = 822;
 
 // A machine that words say, where it is known.
-#[derive(Drop)]
+#[derive(Clone, Copy)]
 pub struct Unpacked {
     pub machine: Machine,
     pub known: bool,

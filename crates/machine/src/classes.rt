@@ -24,7 +24,7 @@ pub fn joined(mut ready: [Queue; 3], c: u8, h: u8) -> [Queue; 3]
 }
 
 // What a selection changes: the ready queues, who runs, the count and the mark.
-#[derive(Drop)]
+#[derive(Clone, Copy)]
 pub struct Selection {
     pub ready: [Queue; 3],
     pub running: u8,
@@ -33,7 +33,7 @@ pub struct Selection {
 }
 
 // The ready queues without the head of class c, and that head; a class that is not there has 0.
-#[derive(Drop)]
+#[derive(Clone, Copy)]
 struct Shorter {
     ready: [Queue; 3],
     head: u8,

@@ -33,7 +33,7 @@ impl Process {
 }
 
 // The ready queues, and who runs.
-#[derive(Drop)]
+#[derive(Clone, Copy)]
 struct Seats {
     ready: [Queue; 3],
     running: u8,
@@ -65,7 +65,7 @@ fn next_second(s: u16) -> u16
 }
 
 // The ready queues, and who still waits.
-#[derive(Drop)]
+#[derive(Clone, Copy)]
 struct Waking {
     ready: [Queue; 3],
     waiters: Queue,

@@ -42,7 +42,7 @@ impl Process {
 }
 
 // What becomes of a gate that is given up, and whether somebody holds it next.
-#[derive(Drop)]
+#[derive(Clone, Copy)]
 struct Handed {
     gate: Gate,
     passes: bool,

@@ -1,4 +1,6 @@
 // The machine's state, its limits and the fresh machine. What it does is defined in specs/.
+#![tactic(auto)]
+
 mod classes;
 mod clock;
 mod gates;
@@ -11,14 +13,14 @@ pub use classes::{Selection, class_of, is_better_ready, joined, selected};
 use image::Header;
 
 // Processes in order: the first len of at.
-#[derive(Drop)]
+#[derive(Clone, Copy)]
 pub struct Queue {
     pub len: u8,
     pub at: [u8; Machine::PROCESSES as usize],
 }
 
 // A gate is open where its holder is nobody.
-#[derive(Drop)]
+#[derive(Clone, Copy)]
 pub struct Gate {
     pub holder: u8,
     pub queue: Queue,
@@ -26,7 +28,7 @@ pub struct Gate {
 }
 
 // The registers of the virtual code, with a job's: reason 0 says that no stop is pending.
-#[derive(Drop)]
+#[derive(Clone, Copy)]
 pub struct Regs {
     pub address: u16,
     pub line: u16,
@@ -42,7 +44,7 @@ pub struct Regs {
 }
 
 // The gates held are the first holds of held, in the order entered.
-#[derive(Drop)]
+#[derive(Clone, Copy)]
 pub struct Process {
     pub regs: Regs,
     pub variables: u16,
@@ -54,7 +56,7 @@ pub struct Process {
 }
 
 // A device is busy where a process waits for it; operation and the record's address are kept from the start.
-#[derive(Drop)]
+#[derive(Clone, Copy)]
 pub struct Device {
     pub process: u8,
     pub operation: u8,
@@ -63,7 +65,7 @@ pub struct Device {
 
 // The count is of selections from class 0 or 1 while class 2 is not empty; the mark is the running process's.
 // Nobody runs, holds, sits or waits where the number is 10; the machine is stopped unless stop is 10.
-#[derive(Drop)]
+#[derive(Clone, Copy)]
 pub struct Machine {
     pub processes: [Process; Machine::PROCESSES as usize],
     pub gates: [Gate; Machine::GATES as usize],

@@ -1,1 +1,2 @@
 // No code: the words that all definitions share, in specs/.
+#![tactic(auto)]

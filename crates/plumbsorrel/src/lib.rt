@@ -1,4 +1,6 @@
 // The machine for C: numbers and slices only. Each function answers one number, defined in specs/.
+#![tactic(auto)]
+
 mod events;
 mod images;
 mod number;

@@ -6,7 +6,7 @@ use image::{Check, Refusal};
 use machine::Machine;
 
 // How it ended: with nothing to tell; nobody ran; a device has started; the machine has stopped.
-#[derive(Drop)]
+#[derive(Clone, Copy)]
 pub enum Ended {
     Onward,
     Idle,
@@ -14,14 +14,14 @@ pub enum Ended {
     Stopped,
 }
 
-#[derive(Drop)]
+#[derive(Clone, Copy)]
 pub enum Reply {
     Did(Ended),
     Refused(Refusal),
 }
 
 // The machine after an offer, the answer, and how many instructions it counts.
-#[derive(Drop)]
+#[derive(Clone, Copy)]
 pub struct Offered {
     pub machine: Machine,
     pub reply: Reply,
@@ -51,7 +51,7 @@ pub(crate) fn answered(machine: Machine, check: Check) -> Offered
 }
 
 // The machine after some instructions, how they ended, and how many they were.
-#[derive(Drop)]
+#[derive(Clone, Copy)]
 pub struct Ran {
     pub machine: Machine,
     pub ended: Ended,

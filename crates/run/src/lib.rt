@@ -1,4 +1,6 @@
 // The machine: load, step, run, tick, done and bell, each taken or refused by document 01's table.
+#![tactic(auto)]
+
 mod answer;
 mod checks;
 mod doors;

@@ -12,7 +12,7 @@ use image::{Check, Header, Reading};
 use machine::Machine;
 
 // The header, and the fresh machine; where the image is refused, the machine says nothing.
-#[derive(Drop)]
+#[derive(Clone, Copy)]
 pub struct Loaded {
     pub machine: Machine,
     pub reading: Reading,

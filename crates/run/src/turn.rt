@@ -18,7 +18,7 @@ use kernel::{Act, Caller, Decision};
 use machine::{Gate, Machine, Process, Queue, Regs};
 
 // What a turn has decided, and how many instructions it counts.
-#[derive(Drop)]
+#[derive(Clone, Copy)]
 struct Turned {
     decision: Decision,
     count: u32,

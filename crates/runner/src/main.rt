@@ -1,4 +1,6 @@
 // Runs each image that it is given, up to a budget of instructions, and shows how it ended and what is where.
+#![tactic(auto)]
+
 mod course;
 mod options;
 mod place;

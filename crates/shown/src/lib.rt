@@ -1,4 +1,6 @@
 // What the programs that read images have in common: an image's file, and lines of words and numbers for a person.
+#![tactic(auto)]
+
 mod file;
 mod line;
 mod words;

@@ -1,4 +1,6 @@
 // The test of a sound state.
+#![tactic(auto)]
+
 ghost use Rattle.std.specs.Prelude.{◌≡◌, true, ◌≤◌};
 ghost use Rattle.machine.specs.Sound.{sound};
 ghost use Rattle.sound.specs.Test.{parts_ok, processes_ok};

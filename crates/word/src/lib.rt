@@ -1,4 +1,6 @@
 // 16-bit words, and the virtual code's arithmetic on them: codes 4, 6 to 19 and 22 of document 01.
+#![tactic(auto)]
+
 pub mod fault;
 mod whole;
 
@@ -6,7 +8,7 @@ ghost use Rattle.std.specs.Prelude.{◌≡◌};
 ghost use Rattle.word.specs.Word.{said, unary_w, binary_w, local_addr_w, range_w, index_w, case_w};
 
 // What a reckoning answers: a word, or the number of a fault.
-#[derive(Drop)]
+#[derive(Clone, Copy)]
 pub enum Answer {
     Word(u16),
     Fault(u16),

@@ -1,4 +1,6 @@
 // Runs the arithmetic of words on 210 edge cases. A line has the code, its operands, and the word or the fault.
+#![tactic(auto)]
+
 use libc::STDOUT_FILENO;
 use word::Answer;
 
