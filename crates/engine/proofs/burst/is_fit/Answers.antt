@@ -1,0 +1,5 @@
+-- The tests are the definition's, one by one, with the stores' lengths for the stores.
+use Rattle.engine.proofs.burst.is_fit.Goals as goal
+
+pub returns : goal.returns
+returns c = λ h s q e f. rw (c.wide-at.ensures.0, c.job_is_ok-job.ensures, e, f)

@@ -1,0 +1,18 @@
+-- The definition's one test taken apart: outside a job it holds, and in a job it holds where both of the code's tests do.
+use mathlib.Core.Logic.{⊎_elim}
+use mathlib.Core.Path.{sym, ◌∙◌}
+use native.Mathlib.Omega.{arith}
+use borrow.Author.Tests.{lt-leb}
+use Rattle.machine.specs.View.{located}
+use Rattle.engine.proofs.Laws as L
+use Rattle.engine.proofs.place.locate.Goals as goal
+
+pub returns-then-a-floor : goal.returns-then-a-floor
+unfolding located
+returns-then-a-floor c = rw (c.if-r.true, lt-leb _ _ c.if-a-floor.true)
+
+pub returns-then-wide : goal.returns-then-wide
+returns-then-wide c = L.located-above _ _ _ c.if-r.true (omega arith) (omega arith)
+
+pub returns : goal.returns
+returns c = c.place_of.ensures ∙ sym (⊎_elim (λ t. L.located_inside _ _ _ t.0.taken t.1.left (omega arith)) (λ e. L.located_outside _ _ _ e.left) c.if-r.branch)

@@ -1,0 +1,11 @@
+-- The tests are the definition's, one by one.
+use Rattle.machine.specs.Sound.{job_ok}
+use Rattle.sound.proofs.process.job_is_ok.Goals as goal
+
+pub returns-then-r : goal.returns-then-r
+unfolding job_ok
+returns-then-r c = rw (c.if-r.true, c.wide.ensures.0, c.wide-then-r.ensures.0)
+
+pub returns-else-r : goal.returns-else-r
+unfolding job_ok
+returns-else-r c = rw c.if-r.false
