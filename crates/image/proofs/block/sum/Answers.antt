@@ -4,11 +4,8 @@ use Rattle.notation.specs.Upto.{sum_to}
 use Rattle.notation.proofs.Upto.{sum_strips}
 use Rattle.image.specs.Block.{word_at}
 use Rattle.image.proofs.Laws as L
+use Rattle.image.proofs.block.sum.Invariants.{eight}
 use Rattle.image.proofs.block.sum.Goals as goal
-
--- what turn k adds
-abbrev eight : List ℕ → ℕ → ℕ
-eight block k = sum_to (λ j. word_at block (32 * j + k)) 8
 
 pub loop-k-init : goal.loop-k-init
 unfolding sum_to

@@ -12,23 +12,16 @@ loop-i-init c =
     let z : blocks - 0 ≡ blocks = omega arith in
     (search rules, rw z)
 
--- the part that was tested is block i
-tested :
-    (c : After-is_good-good) →
-    let i = c.loop-i.i in
-    not (good_block (block_at c.args.image.now i) i) ≡ not c.is_good-good.result
-tested c = ap not (sym (rw L.width_512 at c.is_good-good.ensures))
-
 pub returns-then-not-good : goal.returns-then-not-good
 unfolding refusal2
 returns-then-not-good c =
     let before = c.loop-i-test.true in
-    rw (c.loop-i.invariant.1 ∙ first_here _ _ _ before (tested c.before ∙ c.if-not-good.true-raw), lt-ltb _ _ before)
+    rw (c.loop-i.invariant.1 ∙ first_here _ _ _ before (ap not (sym (rw L.width_512 at c.is_good-good.ensures)) ∙ c.if-not-good.true-raw), lt-ltb _ _ before)
 
 pub loop-i-preserved : goal.loop-i-preserved
 loop-i-preserved c = (
   omega arith,
-  c.loop-i.invariant.1 ∙ first_next _ _ _ c.loop-i-test.true (tested c.before ∙ c.if-not-good.false-raw),
+  c.loop-i.invariant.1 ∙ first_next _ _ _ c.loop-i-test.true (ap not (sym (rw L.width_512 at c.is_good-good.ensures)) ∙ c.if-not-good.false-raw),
 )
 
 pub returns : goal.returns

@@ -1,5 +1,5 @@
 -- Each turn tests one word more of the fill, and the loop ends at the fill's last word.
-use Rattle.std.proofs.Common.{◌≡◌, ◌+◌, ◌-◌, ◌*◌, ◌/◌, ◌%◌, not, eqb, sym, refl, ap, ◌∙◌, arith, rules}
+use Rattle.std.proofs.Common.{◌≡◌, ℕ, Bool, List, ◌+◌, ◌-◌, ◌*◌, ◌/◌, ◌%◌, not, eqb, sym, refl, ap, ◌∙◌, arith, rules}
 use Rattle.notation.specs.Upto.{all_to}
 use Rattle.image.specs.Block.{word_at}
 use Rattle.image.specs.Header.{code_blocks}
@@ -19,19 +19,14 @@ loop-k-preserved c =
     (omega arith, L.all_more _ _ _ _ c.loop-k.invariant.1 (ap (λ w. eqb w 0) (c.word-w.ensures ∙ ap (word_at c.args.image.now) e)))
 
 -- after the loop all of the fill is tested
-tested :
-    (c : After-loop-k) →
-    let a = c.args in
-    all_to (λ j. eqb (code_at a.image.now (a.n + j)) 0) (254 * code_blocks a.n - a.n) ≡ c.loop-k.zero
-tested c =
-    let n = c.args.n in
-    let e : 254 * code_blocks n - n ≡ c.loop-k.k = omega arith in
-    rw e (sym c.loop-k.invariant.1)
+tested : (image : List ℕ) (n k : ℕ) (zero : Bool) → k ≡ 254 * code_blocks n - n → zero ≡ all_to (λ j. eqb (code_at image (n + j)) 0) k
+    → all_to (λ j. eqb (code_at image (n + j)) 0) (254 * code_blocks n - n) ≡ zero
+tested image n k zero e z = rw (← e) (sym z)
 
 pub returns-then-zero : goal.returns-then-zero
 unfolding refusal5
-returns-then-zero c = L.passes 5 _ (ap not (tested c.before ∙ c.if-zero.true))
+returns-then-zero c = L.passes 5 _ (ap not (tested _ _ _ _ (omega arith) c.loop-k.invariant.1 ∙ c.if-zero.true))
 
 pub returns-else-zero : goal.returns-else-zero
 unfolding refusal5
-returns-else-zero c = L.fails 5 _ (ap not (tested c.before ∙ c.if-zero.false))
+returns-else-zero c = L.fails 5 _ (ap not (tested _ _ _ _ (omega arith) c.loop-k.invariant.1 ∙ c.if-zero.false))

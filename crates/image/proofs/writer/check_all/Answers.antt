@@ -7,12 +7,6 @@ use Rattle.image.specs.Write.{write_checks}
 use Rattle.image.proofs.Laws as L
 use Rattle.image.proofs.writer.check_all.Goals as goal
 
--- the check that passed hands on what comes after it
-passed-header :
-    (c : In-Passed) (x next : Reply) →
-    x ≡ next → x ≡ refuse 3 (not (good_header c.args.h)) then next
-passed-header c x next e = L.goes_on_lem _ _ x next c.check_header-head.ensures c.in-Passed.is e
-
 pub returns-in_default : goal.returns-in_default
 unfolding write_checks
 returns-in_default c = L.ends _ _ _ _ c.check_header-head.ensures c.in_default.is
@@ -20,11 +14,11 @@ returns-in_default c = L.ends _ _ _ _ c.check_header-head.ensures c.in_default.i
 pub returns-in_default-code : goal.returns-in_default-code
 unfolding write_checks
 returns-in_default-code c =
-    passed-header c.before.before.before.before _ _ (L.ends _ _ _ _ c.check_code-code.ensures c.in_default-code.is)
+    L.goes_on_lem _ _ _ _ c.check_header-head.ensures c.in-Passed.is (L.ends _ _ _ _ c.check_code-code.ensures c.in_default-code.is)
 
 pub returns : goal.returns
 unfolding write_checks
 returns c =
-    passed-header c.before.before.before.before.before.before _ _
+    L.goes_on_lem _ _ _ _ c.check_header-head.ensures c.in-Passed.is
     (L.goes_on_lem _ _ _ _ c.check_code-code.ensures c.in-Passed-code.is
     (rw c.code_blocks.ensures at c.check_room.ensures))

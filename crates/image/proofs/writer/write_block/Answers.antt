@@ -16,9 +16,9 @@ loop-j-preserved c =
     let put = c.put_word in
     let word = c.body_word-w.ensures in (
       omega arith,
-      omega (arith, put.auto.0),
+      omega (arith, put.auto.bytes),
       put.ensures ∙ rw loop.invariant.2 (L.word_more _ _ _ _ _ _ (omega arith) (word ∙ L.body-word _ _ _ _ c.loop-j-test.true)),
-      c.wrapping_add_u16-sum.ensures ∙ L.sum_more _ _ _ _ loop.invariant.3 word,
+      c.wrapping_add_u16-sum.ensures.value ∙ L.sum_more _ _ _ _ loop.invariant.3 word,
     )
 
 pub returns : goal.returns
@@ -28,7 +28,7 @@ returns c =
     let rest = c.wrapping_sub_u16 in
     let j : loop.j ≡ 255 = omega arith in
     let s : loop.sum ≡ sum_to (body a.h a.code.now a.i) 255 % 65536 = rw j at loop.invariant.3 in
-    let w : rest.result ≡ check a.h a.code.now a.i = omega (arith, rest.ensures, rest.type-inv) in
+    let w : rest.result ≡ check a.h a.code.now a.i = omega (arith, rest.ensures.value, rest.type_inv) in
     c.put_word-2.ensures
     ∙ rw (loop.invariant.2, j)
     (L.word_more _ _ _ 255 _ a.block.now (omega arith) (w ∙ L.check-word _ _ _)
