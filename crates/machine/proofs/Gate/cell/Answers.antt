@@ -6,4 +6,4 @@ use Rattle.machine.proofs.Gate.cell.Goals as goal
 
 pub returns-else-c-le-LAST_CELL : goal.returns-else-c-le-LAST_CELL
 returns-else-c-le-LAST_CELL c =
-    sym (get-past c.args.self.cells 8 _ (simp length-map at c.well_formed.0.1.1.1.1.0.1.0.1) (omega (arith, c.if-c-le-LAST_CELL.false)) 0)
+    sym (get-past c.args.self.cells 8 _ (c.well_formed.0.1.1.1.1.0.1.0.1) (omega (arith, c.if-c-le-LAST_CELL.false)) 0)

@@ -7,4 +7,4 @@ pub returns : goal.returns
 unfolding continue leave
 returns c =
     rw (c.hand_over.ensures, c.resumed.ensures)
-    (continued c.args.self _ _ (simp length-map at c.well_formed.0.1.1.1.0.1.0.1) _ _ c.gate_of-w.ensures)
+    (continued c.args.self _ _ (c.well_formed.0.1.1.1.0.1.0.1) _ _ c.gate_of-w.ensures)

@@ -8,4 +8,4 @@ pub returns : goal.returns
 unfolding delay set_running
 returns c =
     rw (c.hand_over.ensures, c.handed_on.ensures, c.seat.ensures)
-    (delayed (set_running c.args.self 10) _ _ _ (simp length-map at c.well_formed.0.1.1.1.0.1.0.1) _ c.gate_of-w.ensures)
+    (delayed (set_running c.args.self 10) _ _ _ (c.well_formed.0.1.1.1.0.1.0.1) _ c.gate_of-w.ensures)

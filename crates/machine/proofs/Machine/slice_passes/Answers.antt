@@ -17,7 +17,7 @@ returns-then-h-lt-PROCESSES c =
     let h = c.args.h in
     let l = c.if-h-lt-PROCESSES.true in
     let a = c.aged-older.ensures in
-    let long = simp length-map at c.well_formed.0.1.1.0.1.0.1 in
+    let long = c.well_formed.0.1.1.0.1.0.1 in
     let same = ap (λ (p : Process). p.class) (get_or-set_same m.processes h c.aged-older.result no_process (omega (arith, long, l))) in
     let over = leb 190 (proc m h).slice in
     rw (lt-leb _ _ l)
