@@ -26,8 +26,8 @@ all_first p n zero h = let e : n ≡ 0 = omega arith in rw e
 all_first p n (suc k) h =
     below? k n
     (λ b.
-    let e : n ≡ suc k = omega arith in
-    rw e (all_same (λ i. leb (suc k) i || p i) p (suc k) (λ i l. rw (lt-leb (suc k) i l))))
+    let e : suc k ≡ n = omega arith in
+    subst (λ (x : ℕ). all_to (λ i. leb x i || p i) (suc k) ≡ all_to p x) e (all_same (λ i. leb (suc k) i || p i) p (suc k) (λ i l. rw (lt-leb (suc k) i l))))
     (λ b. rw (all_first p n k b, le-leb n k b) (and-true _))
 
 -- ---- sums

@@ -6,7 +6,7 @@ use mathlib.Core.Path.{◌≡◌}
 use Rattle.layout.proofs.get.processes.Given as goal
 
 abbrev pub invariant-loop-i : goal.invariant-loop-i
-invariant-loop-i l = (l.i ≤ 10) × (length l.all ≡ 10) × (length l.initial.all ≡ 10) × (l.all ≡ laid (λ l.i. process_of (from l.words (24 * l.i))) l.i l.initial.all)
+invariant-loop-i l = (l.i ≤ 10) × (length l.all ≡ 10) × (length l.initial.all ≡ 10) × (l.all ≡ laid (λ i. process_of (from l.words (24 * i))) l.i l.initial.all)
 
 abbrev pub decreases-loop-i : goal.decreases-loop-i
 decreases-loop-i l = 10 - l.i

@@ -7,7 +7,7 @@ use mathlib.Core.Path.{◌≡◌}
 use Rattle.layout.proofs.put.devices.Given as goal
 
 abbrev pub invariant-loop-d : goal.invariant-loop-d
-invariant-loop-d l = (l.d ≤ 5) × (length l.to ≡ length l.initial.to) × Put l.initial.to 795 (rows (λ l.d. device_words (get_or l.all l.d no_device)) l.d) (3 * l.d) l.to
+invariant-loop-d l = (l.d ≤ 5) × (length l.to ≡ length l.initial.to) × Put l.initial.to 795 (rows (λ d. device_words (get_or l.all d no_device)) l.d) (3 * l.d) l.to
 
 abbrev pub decreases-loop-d : goal.decreases-loop-d
 decreases-loop-d l = 5 - l.d

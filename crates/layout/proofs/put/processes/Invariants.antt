@@ -7,7 +7,7 @@ use mathlib.Core.Path.{◌≡◌}
 use Rattle.layout.proofs.put.processes.Given as goal
 
 abbrev pub invariant-loop-i : goal.invariant-loop-i
-invariant-loop-i l = (l.i ≤ 10) × (length l.to ≡ length l.initial.to) × Put l.initial.to 0 (rows (λ l.i. process_words (get_or l.all l.i no_process)) l.i) (24 * l.i) l.to
+invariant-loop-i l = (l.i ≤ 10) × (length l.to ≡ length l.initial.to) × Put l.initial.to 0 (rows (λ i. process_words (get_or l.all i no_process)) l.i) (24 * l.i) l.to
 
 abbrev pub decreases-loop-i : goal.decreases-loop-i
 decreases-loop-i l = 10 - l.i

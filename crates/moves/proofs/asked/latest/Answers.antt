@@ -9,4 +9,4 @@ returns-then-n-eq0 c = rw c.if-n-eq0.true
 
 pub returns-else-n-le-HELD : goal.returns-else-n-le-HELD
 returns-else-n-le-HELD c =
-    sym (get-past c.args.p.held 8 _ (simp length-map at c.well_formed.0.1.1.1.1.1.1.1.0.1.0.1) (omega (arith, c.if-n-le-HELD.false)) 0)
+    sym (get-past c.args.p.held 8 _ (c.well_formed.0.1.1.1.1.1.1.1.0.1.0.1) (omega (arith, c.if-n-le-HELD.false)) 0)

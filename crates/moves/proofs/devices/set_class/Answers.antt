@@ -13,4 +13,4 @@ returns-then-h-lt-PROCESSES c =
 pub returns-else-h-lt-PROCESSES : goal.returns-else-h-lt-PROCESSES
 unfolding set_class with_process
 returns-else-h-lt-PROCESSES c =
-    rw (set_past _ 10 _ (simp length-map at c.well_formed.0.1.1.0.1.0.1) c.if-h-lt-PROCESSES.false _)
+    rw (set_past _ 10 _ (c.well_formed.0.1.1.0.1.0.1) c.if-h-lt-PROCESSES.false _)

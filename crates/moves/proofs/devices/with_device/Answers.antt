@@ -12,4 +12,4 @@ returns-then-d-lt5 c =
 pub returns-else-d-lt5 : goal.returns-else-d-lt5
 unfolding with_device
 returns-else-d-lt5 c =
-    rw (set_past _ 5 _ (simp length-map at c.well_formed.0.1.1.1.1.1.1.1.0.1.0.1) c.if-d-lt5.false _)
+    rw (set_past _ 5 _ (c.well_formed.0.1.1.1.1.1.1.1.0.1.0.1) c.if-d-lt5.false _)

@@ -10,4 +10,4 @@ returns-then-child-lt-PROCESSES c = rw (c.started-p.ensures, lt-ltb _ _ c.if-chi
 
 pub returns-else-child-lt-PROCESSES : goal.returns-else-child-lt-PROCESSES
 unfolding born
-returns-else-child-lt-PROCESSES c = rw (le-ltb _ _ c.if-child-lt-PROCESSES.false, set_past c.args.m.processes 10 _ (simp length-map at c.well_formed.0.1.1.0.1.0.1) c.if-child-lt-PROCESSES.false _)
+returns-else-child-lt-PROCESSES c = rw (le-ltb _ _ c.if-child-lt-PROCESSES.false, set_past c.args.m.processes 10 _ (c.well_formed.0.1.1.0.1.0.1) c.if-child-lt-PROCESSES.false _)

@@ -8,4 +8,4 @@ pub returns : goal.returns
 unfolding create_process set_running wake push
 returns c =
     rw (c.born.ensures, c.place_child-placed.ensures, c.wake.ensures, c.set_running.ensures)
-    (placed_first (wake (set_running c.args.m 10) c.args.m.running) _ _ (simp length-map at c.well_formed.0.1.1.0.1.0.1))
+    (placed_first (wake (set_running c.args.m 10) c.args.m.running) _ _ (c.well_formed.0.1.1.0.1.0.1))

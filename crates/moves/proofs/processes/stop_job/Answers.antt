@@ -29,4 +29,4 @@ returns-else-answer-eq0 c =
 
 pub returns-else-there : goal.returns-else-there
 returns-else-there c =
-    not_stopped c.args.m _ _ (simp length-map at c.well_formed.0.1.1.0.1.0.1) (rw c.wide.ensures at c.if-there.false)
+    not_stopped c.args.m _ _ (c.well_formed.0.1.1.0.1.0.1) (rw c.wide.ensures at c.if-there.false)

@@ -10,7 +10,7 @@ returns-then-out c = L.out c.args.m c.args.d c.args.status c.if-out.true
 
 -- src/checks.rt:61:13
 pub bounds-m-d : goal.bounds-m-d
-bounds-m-d c = omega (arith, L.inside c.args.d c.args.status c.if-out.false, simp length-map at c.well_formed.0.1.1.1.1.1.1.1.0.1.0.1)
+bounds-m-d c = omega (arith, L.inside c.args.d c.args.status c.if-out.false, c.well_formed.0.1.1.1.1.1.1.1.0.1.0.1)
 
 -- src/checks.rt:54:1
 pub returns-then-x-lt-NOBODY : goal.returns-then-x-lt-NOBODY

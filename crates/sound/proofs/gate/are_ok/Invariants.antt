@@ -8,7 +8,7 @@ use Rattle.sound.specs.Test.{gate_in}
 use Rattle.sound.proofs.gate.are_ok.Given as goal
 
 abbrev pub invariant-loop-g : goal.invariant-loop-g
-invariant-loop-g l = (l.g ≤ 25) × (l.ok ≡ all_to (λ l.g. gate_in l.created (ltb l.g l.made) (get_or l.gates l.g no_gate)) l.g)
+invariant-loop-g l = (l.g ≤ 25) × (l.ok ≡ all_to (λ g. gate_in l.created (ltb g l.made) (get_or l.gates g no_gate)) l.g)
 
 abbrev pub decreases-loop-g : goal.decreases-loop-g
 decreases-loop-g l = 25 - l.g

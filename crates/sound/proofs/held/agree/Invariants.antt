@@ -7,7 +7,7 @@ use Rattle.word.specs.Word.{bit}
 use Rattle.sound.proofs.held.agree.Given as goal
 
 abbrev pub invariant-loop-g : goal.invariant-loop-g
-invariant-loop-g l = (l.g ≤ 25) × (l.ok ≡ all_to (λ l.g. eqb (get_or l.t l.g 0) (bit (eqb (get_or l.holders l.g 0) l.q))) l.g)
+invariant-loop-g l = (l.g ≤ 25) × (l.ok ≡ all_to (λ g. eqb (get_or l.t g 0) (bit (eqb (get_or l.holders g 0) l.q))) l.g)
 
 abbrev pub decreases-loop-g : goal.decreases-loop-g
 decreases-loop-g l = 25 - l.g

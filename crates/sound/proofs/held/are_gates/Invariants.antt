@@ -6,7 +6,7 @@ use Rattle.notation.specs.Upto.{all_to}
 use Rattle.sound.proofs.held.are_gates.Given as goal
 
 abbrev pub invariant-loop-k : goal.invariant-loop-k
-invariant-loop-k l = (l.k ≤ l.holds) × (l.ok ≡ all_to (λ l.k. ltb (get_or l.held l.k 0) 25) l.k)
+invariant-loop-k l = (l.k ≤ l.holds) × (l.ok ≡ all_to (λ k. ltb (get_or l.held k 0) 25) l.k)
 
 abbrev pub decreases-loop-k : goal.decreases-loop-k
 decreases-loop-k l = l.holds - l.k

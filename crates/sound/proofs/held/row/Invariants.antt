@@ -6,7 +6,7 @@ use Rattle.sound.specs.Tally.{Grown}
 use Rattle.sound.proofs.held.row.Given as goal
 
 abbrev pub invariant-loop-k : goal.invariant-loop-k
-invariant-loop-k l = (l.k ≤ l.holds) × Grown 25 l.initial.t l.t (λ q. sum_to (λ l.k. sits q (get_or l.held l.k 0)) l.k)
+invariant-loop-k l = (l.k ≤ l.holds) × Grown 25 l.initial.t l.t (λ q. sum_to (λ k. sits q (get_or l.held k 0)) l.k)
 
 abbrev pub decreases-loop-k : goal.decreases-loop-k
 decreases-loop-k l = l.holds - l.k

@@ -7,7 +7,7 @@ use Rattle.sound.specs.Test.{process_in}
 use Rattle.sound.proofs.process.are_ok.Given as goal
 
 abbrev pub invariant-loop-q : goal.invariant-loop-q
-invariant-loop-q l = (l.q ≤ l.created) × (l.ok ≡ all_to (λ l.q. process_in l.n l.holders l.q (get_or l.here l.q 0) (get_or l.gates l.q 0) (get_or l.elsewhere l.q 0) (get_or l.processes l.q no_process)) l.q)
+invariant-loop-q l = (l.q ≤ l.created) × (l.ok ≡ all_to (λ q. process_in l.n l.holders q (get_or l.here q 0) (get_or l.gates q 0) (get_or l.elsewhere q 0) (get_or l.processes q no_process)) l.q)
 
 abbrev pub decreases-loop-q : goal.decreases-loop-q
 decreases-loop-q l = l.created - l.q

@@ -7,7 +7,7 @@ use Rattle.notation.specs.Upto.{all_to}
 use Rattle.sound.proofs.queue.lacks.Given as goal
 
 abbrev pub invariant-loop-k : goal.invariant-loop-k
-invariant-loop-k l = (l.k ≤ l.len) × (l.ok ≡ all_to (λ l.k. not (eqb (get_or l.at l.k 0) l.x)) l.k)
+invariant-loop-k l = (l.k ≤ l.len) × (l.ok ≡ all_to (λ k. not (eqb (get_or l.at k 0) l.x)) l.k)
 
 abbrev pub decreases-loop-k : goal.decreases-loop-k
 decreases-loop-k l = l.len - l.k
