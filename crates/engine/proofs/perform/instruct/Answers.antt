@@ -14,4 +14,4 @@ pub returns-then-stops : goal.returns-then-stops
 returns-then-stops c = c.end_job.ensures _ _ _ ∙ stopped _ c.if-code-at.false c.if-stops.true
 
 pub returns : goal.returns
-returns c = let a = c.args in c.settle-2.ensures a.code.now a.holding c.perform-out.new.1.1.1.1.1.0 ∙ settles _ _ c.perform-out.result _ _ c.perform-out.ensures ∙ performed _ c.if-code-at.false c.if-stops.false
+returns c = let a = c.args in c.settle-2.ensures a.code.now a.holding c.perform-out.new.common ∙ settles _ _ c.perform-out.result _ _ c.perform-out.ensures ∙ performed _ c.if-code-at.false c.if-stops.false

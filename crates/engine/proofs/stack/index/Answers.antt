@@ -10,7 +10,7 @@ unfolding index
 returns-then-code-at c = λ h k. rw (lt-leb _ _ c.if-code-at.true)
 
 pub returns-then-s-r : goal.returns-then-s-r
-returns-then-s-r c = λ h k. L.index-passed _ c.index-x.ensures (omega arith) (c.replace.ensures _ _ h k)
+returns-then-s-r c = λ h k. L.index-passed _ c.index-x.ensures (omega arith) (c.replace.ensures c.args.code.now c.args.floor h k)
 
 pub returns-else-s-r : goal.returns-else-s-r
 unfolding index

@@ -7,7 +7,7 @@ pub returns-then-at-code : goal.returns-then-at-code
 unfolding localaddr
 returns-then-at-code c = λ h k.
     rw (le-leb _ _ c.if-at-code.true, ← c.local_addr-x.ensures)
-    (c.push.ensures _ h k)
+    (c.push.ensures c.args.code.now h k)
 
 pub returns-else-at-code : goal.returns-else-at-code
 unfolding localaddr

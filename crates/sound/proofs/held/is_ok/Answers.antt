@@ -12,4 +12,4 @@ pub row-requires : goal.row-requires
 row-requires c = (c.if-holds-gt-HELD.false, (refl, λ q l. omega (arith, T.zeros 25 q l)))
 
 pub returns : goal.returns
-returns c = rw (c.are_gates-known.ensures, c.agree-same.ensures) (P.list_row c.args.holders.now c.args.q c.args.held c.args.holds c.row.new.0 c.if-holds-gt-HELD.false c.row.ensures)
+returns c = rw (c.are_gates-known.ensures, c.agree-same.ensures) (P.list_row c.args.holders.now c.args.q c.args.held c.args.holds c.row.new.t c.if-holds-gt-HELD.false c.row.ensures)

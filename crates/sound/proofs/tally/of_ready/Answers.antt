@@ -26,6 +26,6 @@ queue-requires-3 c = ((c.requires 2 (omega arith)), (c.queue-2.ensures.0, λ q l
 pub returns : goal.returns
 unfolding sum_to
 returns c =
-    T.counts c.queue-3.new.0 (λ q. sits q c.args.running + sum_to (λ i. in_queue q (get_or c.args.ready i no_queue)) 3) c.queue-3.ensures.0
+    T.counts c.queue-3.new.t (λ q. sits q c.args.running + sum_to (λ i. in_queue q (get_or c.args.ready i no_queue)) 3) c.queue-3.ensures.0
     (λ q l. omega (arith, c.queue-3.ensures.1 q l, c.queue-2.ensures.1 q l, c.queue.ensures.1 q l, c.one.ensures.1 q l, T.zeros 10 q l))
     (λ q l. omega (arith, L.bit-most (eqb c.args.running q), T.queue_most q (get_or c.args.ready 0 no_queue) (c.requires 0 (omega arith)), T.queue_most q (get_or c.args.ready 1 no_queue) (c.requires 1 (omega arith)), T.queue_most q (get_or c.args.ready 2 no_queue) (c.requires 2 (omega arith))))

@@ -22,6 +22,6 @@ devices-requires c = (c.queue-2.ensures.0, λ q l. omega (arith, c.queue-2.ensur
 
 pub returns : goal.returns
 returns c =
-    T.counts c.devices.new.0 (λ q. in_queue q c.args.clock + in_queue q c.args.bell + sum_to (λ d. sits q (get_or c.args.ds d no_device).process) 5) c.devices.ensures.0
+    T.counts c.devices.new.t (λ q. in_queue q c.args.clock + in_queue q c.args.bell + sum_to (λ d. sits q (get_or c.args.ds d no_device).process) 5) c.devices.ensures.0
     (λ q l. omega (arith, c.devices.ensures.1 q l, c.queue-2.ensures.1 q l, c.queue.ensures.1 q l, T.zeros 10 q l))
     (λ q l. omega (arith, T.queue_most q c.args.clock c.requires.0, T.queue_most q c.args.bell c.requires.1, L.sum-most (λ d. sits q (get_or c.args.ds d no_device).process) 1 5 (λ k l. L.bit-most (eqb (get_or c.args.ds k no_device).process q))))
