@@ -1,5 +1,5 @@
 -- Laws of lists and of counting: one element anew, sums over a list, the queue, the held gates, and that ten have room for one more
-use mathlib.Core.Path.{◌≡◌, refl, ◌∙◌}
+use mathlib.Core.Path.{◌≡◌, refl, subst, ◌∙◌}
 use mathlib.Core.Bool.{Bool, true, false}
 use mathlib.Core.List.{List}
 use Prim.Native.Nat.{ℕ, zero, suc, ◌+◌, ◌-◌, ◌<◌, ◌≤◌}
@@ -37,9 +37,11 @@ sum-set f l d (suc n) i x b h =
     let o = get_or-set_other l i n x d (λ e. omega arith) in
     rw o (omega arith))
     (λ c.
-    let e : i ≡ n = omega arith in
+    let e : n ≡ i = omega arith in
     let s = sum_same (λ k. f (get_or (set l n x) k d)) (λ k. f (get_or l k d)) n (λ k b. rw (get_or-set_other l n k x d (λ e. omega arith))) in
-    rw (e, get_or-set_same l n x d (omega arith)) (omega arith))
+    subst
+    (λ (j : ℕ). sum_to (λ k. f (get_or (set l j x) k d)) (suc n) + f (get_or l j d) ≡ sum_to (λ k. f (get_or l k d)) (suc n) + f x)
+    e (rw (get_or-set_same l n x d (omega arith)) (omega arith)))
 
 -- ---- numbers in a row: one more, and without the first
 row_more : (l : List ℕ) (n q x : ℕ) → n < length l
@@ -133,9 +135,9 @@ sum-sits x (suc n) l =
     below? x n
     (λ h. let i = sum-sits x n h in let s = sits_other n x (λ e. omega arith) in omega arith)
     (λ h.
-    let e : x ≡ n = omega arith in
+    let e : n ≡ x = omega arith in
     let z = sum-none (λ q. sits q n) n (λ q b. sits_other q n (λ e. omega arith)) in
-    rw e (omega (arith, sits_self n)))
+    subst (λ (y : ℕ). sum_to (λ q. sits q y) (suc n) ≡ 1) e (omega (arith, sits_self n)))
 
 sum_counts : (f : ℕ → ℕ) (len n : ℕ) → ((k : ℕ) → k < len → f k < n) → sum_to (λ q. sum_to (λ k. sits q (f k)) len) n ≡ len
 unfolding sum_to

@@ -7,7 +7,7 @@ use Rattle.kernel.proofs.io.record.Goals as goal
 pub returns-then-not-fit : goal.returns-then-not-fit
 returns-then-not-fit c =
     let a = c.args in
-    handed_unfit a.t1 a.common.now a.private.now a.d (not-true _ c.if-not-fit.true-raw)
+    handed_unfit a.m a.common.now a.private.now a.d (not-true _ c.if-not-fit.true-raw)
 
 pub bounds-m-d : goal.bounds-m-d
 bounds-m-d c =
@@ -19,7 +19,7 @@ returns-then-not-known c =
     let a = c.args in
     let fits = c.if-not-fit in
     let one = c.is_whole-one in
-    handed_idle a.t1 a.common.now a.private.now a.d (not-false _ fits.false) _ one.ensures (not-true _ c.if-not-known.true-raw)
+    handed_idle a.m a.common.now a.private.now a.d (not-false _ fits.false-raw) _ one.ensures (not-true _ c.if-not-known.true-raw)
 
 -- SETTLED? slice-bounds-result-end-3
 -- part-result-end-3 : tie.Need-slice-bounds-result-end-3
@@ -28,8 +28,8 @@ returns-then-not-known c =
 --     let fits = c.before.before.before.before.before.before.if1 in
 --     let one = c.before.before.before.before.is_whole in
 --     let busy = c.before.before.if2 in
---     let k = known (device a.t1 a.d) _ one.ensures (not-false _ busy.false) in
---     omega (arith, c.before.wide.ensures.0, whole-low (device a.t1 a.d).address k.one (rw c.before.wide.ensures.0 at c.if3.true), (fit a.common.now a.private.now a.d (not-false _ fits.false)).common)
+--     let k = known (device a.m a.d) _ one.ensures (not-false _ busy.false-raw) in
+--     omega (arith, c.before.wide.ensures.0, whole-low (device a.m a.d).address k.one (rw c.before.wide.ensures.0 at c.if3.true), (fit a.common.now a.private.now a.d (not-false _ fits.false-raw)).common)
 
 -- SETTLED? slice-bounds-result-end-4
 -- part-result-end-4 : tie.Need-slice-bounds-result-end-4
@@ -38,8 +38,8 @@ returns-then-not-known c =
 --     let fits = c.before.before.before.before.before.before.before.if1 in
 --     let one = c.before.before.before.before.before.is_whole in
 --     let busy = c.before.before.before.if2 in
---     let k = known (device a.t1 a.d) _ one.ensures (not-false _ busy.false) in
---     omega (arith, c.own.ensures, whole-high (device a.t1 a.d).address k.one, k.busy, (fit a.common.now a.private.now a.d (not-false _ fits.false)).private)
+--     let k = known (device a.m a.d) _ one.ensures (not-false _ busy.false-raw) in
+--     omega (arith, c.own.ensures, whole-high (device a.m a.d).address k.one, k.busy, (fit a.common.now a.private.now a.d (not-false _ fits.false-raw)).private)
 
 pub returns-then-a-lt-COMMON : goal.returns-then-a-lt-COMMON
 returns-then-a-lt-COMMON c =
@@ -48,8 +48,8 @@ returns-then-a-lt-COMMON c =
     let one = c.is_whole-one in
     let busy = c.if-not-known in
     let wide = c.wide-a in
-    let k = known (device a.t1 a.d) _ one.ensures (not-false _ busy.false) in
-    rw (four, wide.ensures.0) (handed_common a.t1 a.common.now a.private.now a.d (not-false _ fits.false) k (rw wide.ensures.0 at c.if-a-lt-COMMON.true))
+    let k = known (device a.m a.d) _ one.ensures (not-false _ busy.false-raw) in
+    rw (four, wide.ensures.0) (handed_common a.m a.common.now a.private.now a.d (not-false _ fits.false-raw) k (rw wide.ensures.0 at c.if-a-lt-COMMON.true))
 
 pub returns-else-a-lt-COMMON : goal.returns-else-a-lt-COMMON
 returns-else-a-lt-COMMON c =
@@ -59,5 +59,5 @@ returns-else-a-lt-COMMON c =
     let busy = c.if-not-known in
     let wide = c.wide-a in
     let common = c.if-a-lt-COMMON in
-    let k = known (device a.t1 a.d) _ one.ensures (not-false _ busy.false) in
-    rw (four, c.own-s.ensures) (handed_own a.t1 a.common.now a.private.now a.d (not-false _ fits.false) k (rw wide.ensures.0 at common.false))
+    let k = known (device a.m a.d) _ one.ensures (not-false _ busy.false-raw) in
+    rw (four, c.own-s.ensures) (handed_own a.m a.common.now a.private.now a.d (not-false _ fits.false-raw) k (rw wide.ensures.0 at common.false))
