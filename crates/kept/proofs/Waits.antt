@@ -63,8 +63,8 @@ all_woken : {m : Machine} (b : Bool) (n : ℕ) → n ≤ (line b m).len → Plac
 unfolding clock_wake clock_one bell_wake bell_one
 all_woken true zero l f = f
 all_woken false zero l f = f
-all_woken {m} true (suc n) l f = let e = one_less true m in all_woken true n (omega arith) (first-woken true (omega arith) f)
-all_woken {m} false (suc n) l f = let e = one_less false m in all_woken false n (omega arith) (first-woken false (omega arith) f)
+all_woken {m} true (suc n) l f = let e = one_less true m in all_woken {m = wakes_first true m} true n (omega arith) (first-woken true (omega arith) f)
+all_woken {m} false (suc n) l f = let e = one_less false m in all_woken {m = wakes_first false m} false n (omega arith) (first-woken false (omega arith) f)
 
 pub bell-sound : {m : Machine} → Placed m → Sound (bell m)
 unfolding bell
