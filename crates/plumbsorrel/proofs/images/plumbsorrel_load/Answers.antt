@@ -29,7 +29,7 @@ slice_bounds-pack-end c = size_fits (length c.args.state.now) state_words _ (rw 
 
 -- src/images.rt:29:21
 pub slice_bounds-pack-end-2 : goal.slice_bounds-pack-end-2
-slice_bounds-pack-end-2 c = sym (length-take-le state_words c.args.state.now (slice-relend-prefix-pack c.before))
+slice_bounds-pack-end-2 c = sym (length-take-le state_words c.args.state.now (size_fits (length c.args.state.now) state_words _ (rw c.in-Passed.is at c.check_room-room.ensures)))
 
 -- src/images.rt:10:1
 pub returns : goal.returns

@@ -16,8 +16,8 @@ overflow_cast-device c = omega (arith, (Q.record_asked c.args.device c.args.comm
 
 -- src/records.rt:96:5
 pub copy-requires : goal.copy-requires
-copy-requires c = Q.may_copy c.args.device c.args.common.now c.args.private.now c.args.state.now c.args.out.now c.unpack-u.result c.unpack-u.ensures c.check_record-check.result c.check_record-check.ensures c.in-Passed.is _ c.before.«record».ensures
+copy-requires c = Q.may_copy c.args.device c.args.common.now c.args.private.now c.args.state.now c.args.out.now c.unpack-u.result c.unpack-u.ensures c.check_record-check.result c.check_record-check.ensures c.in-Passed.is _ c.record-words.ensures
 
 -- src/records.rt:79:1
 pub returns : goal.returns
-returns c = Q.copy_leaves c.args.device c.args.common.now c.args.private.now c.args.state.now c.args.out.now c.unpack-u.result c.unpack-u.ensures c.check_record-check.result c.check_record-check.ensures c.in-Passed.is _ c.before.before.before.before.«record».ensures _ c.copy.ensures
+returns c = Q.copy_leaves c.args.device c.args.common.now c.args.private.now c.args.state.now c.args.out.now c.unpack-u.result c.unpack-u.ensures c.check_record-check.result c.check_record-check.ensures c.in-Passed.is _ c.record-words.ensures _ c.copy.ensures
