@@ -29,6 +29,8 @@ module _ {A : Type 0} (l : List A) (n i : ℕ) (long : length l ≡ n) (out : n 
   pub set_past : (x : A) → set l i x ≡ l
   set_past x = set_out l i x (omega (arith, long, out))
 
+pub ruleset past = (get-past, set_past)
+
 -- what is read of a part past the end, and a part put back where it stood
 pub read_past : {A B : Type 0} (f : A → B) (l : List A) (n i : ℕ) → length l ≡ n → n ≤ i → (d : A) → f d ≡ f (get_or l i d)
 read_past f l n i long out d = ap f (sym (get-past l n i long out d))

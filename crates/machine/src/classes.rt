@@ -12,6 +12,7 @@ use crate::{Machine, Process, Queue};
 
 // ---- the ready queues alone: they are 33 bytes, and where they are indexed no machine is copied
 // h joins the tail of class c.
+#[tactic(auto, using(crate::proofs::Laws::past))]
 pub fn joined(mut ready: [Queue; 3], c: u8, h: u8) -> [Queue; 3]
     ensures { result ≡ joined ready c h }
 {
@@ -60,6 +61,7 @@ fn is_due(third: u8, count: u8) -> bool
 }
 
 // The count after a selection from class c, where so many stand in class 2.
+#[tactic(auto, using(crate::proofs::Laws::cases))]
 fn count_from(third: u8, count: u8, c: u8) -> u8
     ensures { result ≡ if (eqb c 2) 0 (if (ltb 0 third) (more count 8) count) }
 {
@@ -170,6 +172,7 @@ impl Machine {
 }
 
 // The best class that is ready, or 3.
+#[tactic(auto, using(crate::proofs::Laws::cases), unfolding(crate::specs::Classes::best))]
 pub(crate) fn best_of(queues: [Queue; 3]) -> u8
     ensures { (m : Machine) → m.ready ≡ queues → result ≡ best m }
 {

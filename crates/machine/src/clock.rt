@@ -58,6 +58,7 @@ fn yielded(ready: [Queue; 3], running: u8, h: u8, class: u8, over: bool) -> Seat
 }
 
 // 32,767 goes to 0.
+#[tactic(auto, using(crate::proofs::Laws::cases))]
 fn next_second(s: u16) -> u16
     ensures { result ≡ next_second s }
 {

@@ -10,6 +10,7 @@ use crate::queues::less;
 use crate::{Gate, Machine, Process, Queue};
 
 // Giving up the last gate held makes the class 2.
+#[tactic(auto, using(crate::proofs::Laws::cases))]
 fn class_without(holds: u8) -> u8
     ensures { result ≡ if (leb holds 1) 2 0 }
 {
@@ -50,6 +51,7 @@ struct Handed {
 
 impl Gate {
     // Who sits in cell c; in one that is not there, 0.
+    #[tactic(auto, using(crate::proofs::Laws::past))]
     pub fn cell(self, c: u8) -> u8
         ensures { result ≡ get_or self.cells c 0 }
     {
@@ -71,6 +73,7 @@ impl Gate {
     }
 
     // The first waiter holds, else the gate opens.
+    #[tactic(auto, using(crate::proofs::Laws::cases), unfolding(crate::specs::Parts::handed_on))]
     fn handed_on(mut self) -> Handed
         ensures { result ≡ handed_on self }
     {
@@ -178,6 +181,7 @@ impl Machine {
 
     // ---- the operations of the running process, where no fault forbids them
     // Open, the caller holds it; shut, the caller waits last.
+    #[tactic(auto, using(crate::proofs::Laws::cases, crate::proofs::Laws::past, crate::proofs::Parts::nobody_becomes), unfolding(crate::specs::Gate::enter, crate::specs::Gate::join, crate::specs::Gate::grant, crate::specs::Classes::set_running, crate::specs::State::with_process))]
     pub fn enter(mut self, g: u8) -> Machine
         ensures { result ≡ enter self g }
     {
