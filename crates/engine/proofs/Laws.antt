@@ -12,7 +12,7 @@ use Rattle.notation.specs.If.{if}
 use Rattle.notation.proofs.Upto.{below?}
 use Rattle.word.specs.declared.Answer.{Answer}
 use Rattle.word.specs.declared.Answer.TheVariants.{Word}
-use Rattle.word.specs.Word.{Reckoned, word, fault, said, index_w, range_w, case_w}
+use Rattle.word.specs.Word.{Reckoned, fault, said, index_w, range_w, case_w}
 use Rattle.word.specs.Whole.{biased}
 use Rattle.word.proofs.Words.{before_cases, past_cases, among_cases}
 use Rattle.machine.specs.declared.Regs.{Regs}

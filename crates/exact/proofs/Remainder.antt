@@ -1,18 +1,16 @@
 -- The remainder of the sizes, with the dividend's sign
 use mathlib.Core.Path.{◌≡◌, refl, sym, ap, ◌∙◌}
-use mathlib.Core.Bool.{true, false}
+use mathlib.Core.Bool.{false}
 use mathlib.Core.Logic.{◌⊎◌, inl, inr}
-use Prim.Native.Nat.{ℕ, zero, suc, ◌+◌, ◌-◌, ◌*◌, ◌/◌, ◌%◌, ◌<◌, ◌≤◌}
+use Prim.Native.Nat.{ℕ, zero, suc, ◌-◌, ◌*◌, ◌/◌, ◌%◌, ◌<◌, ◌≤◌}
 use native.Mathlib.Omega.{arith}
 use native.Mathlib.Nat.{mod-lt, div-add-mod'}
-use lib.Dec.{ltb, leb, eqb}
-use lib.IntN.{ℤ, pos, negsuc, neg_ℤ, nat_abs, sub_ℕ, ◌+ℤ◌, ◌*ℤ◌, neg_ℤ-neg_ℤ, neg_ℤ-+ℤ, pos-+ℤ-pos, pos-*ℤ-pos, negsuc-*ℤ-pos, *ℤ-negsuc}
-use lib.Signed.{mag, mag_rem, quot_z, rem_z, non_neg, le_z}
+use lib.IntN.{ℤ, pos, negsuc, neg_ℤ, nat_abs, ◌+ℤ◌, ◌*ℤ◌, neg_ℤ-neg_ℤ, neg_ℤ-+ℤ, pos-+ℤ-pos, pos-*ℤ-pos, negsuc-*ℤ-pos, *ℤ-negsuc}
+use lib.Signed.{mag, mag_rem, quot_z, rem_z, non_neg}
 use borrow.Author.Tests.{lt-ltb, le-ltb, le-leb, eqb-false}
-use Rattle.notation.specs.If.{if}
 use Rattle.notation.proofs.Upto.{below?}
-use Rattle.word.specs.Word.{signed, word_of, word, in_word, fitted, is_zero, mod_w}
-use Rattle.exact.specs.Remainder.{Remainder, CompilersRule}
+use Rattle.word.specs.Word.{signed, word_of, word, fitted}
+use Rattle.exact.specs.Remainder.{CompilersRule}
 
 -- ---- over whole numbers
 neg_times : (q n : ℕ) → neg_ℤ (pos q) *ℤ pos n ≡ neg_ℤ (pos (q * n))

@@ -1,11 +1,11 @@
 -- Writing an image: the one image of a header and code, what writing answers, and what the output then holds
-use Rattle.std.specs.Prelude.{ℕ, ◌+◌, ◌-◌, ◌*◌, ◌/◌, ◌%◌, Bool, not, List, [], ◌∷◌, length, ◌==◌, slice_index}
+use Rattle.std.specs.Prelude.{ℕ, ◌+◌, ◌-◌, ◌*◌, ◌/◌, ◌%◌, not, List, [], ◌∷◌, length, ◌==◌, slice_index}
 use Rattle.image.specs.declared.head.Header.{Header}
 use Rattle.image.specs.declared.writer.Writing.{Writing}
 use Rattle.image.specs.declared.writer.Writing.TheVariants.{Written, Refused}
 use Rattle.notation.specs.If.{if}
 use Rattle.notation.specs.Upto.{sum_to, list_to, laid}
-use Rattle.image.specs.Refusal.{Reply, taken, refused, ◌then◌, refused_by}
+use Rattle.image.specs.Refusal.{Reply, taken, ◌then◌, refused_by}
 use Rattle.image.specs.Header.{fields, good_header, code_blocks}
 use Rattle.image.specs.Read.{refuse, refusal10, written}
 

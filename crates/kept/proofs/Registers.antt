@@ -4,7 +4,6 @@ use mathlib.Core.Bool.{true, ◌||◌, not, or-true}
 use Prim.Native.Nat.{ℕ, ◌+◌, ◌<◌, ◌≤◌}
 use native.Mathlib.Omega.{arith}
 use lib.Dec.{ltb, leb, eqb}
-use lib.ListN.{length}
 use lib.Seq.{get_or-set_same}
 use borrow.Author.Tests.{eqb-true, eq-eqb, leb-false, ltb-false, le-leb, not-false}
 use Rattle.notation.proofs.Upto.{split, neither}

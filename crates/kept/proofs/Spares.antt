@@ -14,7 +14,7 @@ use Rattle.machine.specs.declared.Process.{Process}
 use Rattle.machine.specs.declared.Machine.{Machine}
 use Rattle.machine.specs.State.{nobody, no_process, proc, with_process}
 use Rattle.machine.specs.Store.{World, Place, in_common, in_own, nowhere, place_of, whole, word_in, common_with, private_with}
-use Rattle.machine.specs.Classes.{set_running, wake, some_ready}
+use Rattle.machine.specs.Classes.{set_running, wake}
 use Rattle.machine.specs.Gate.{enter, leave, delay, continue, may_enter, may_leave, may_delay, may_continue}
 use Rattle.machine.specs.Device.{is_present, is_busy}
 use Rattle.machine.specs.Call.{Called, on, starts, stops, caller, floor, stack_word, has_words, has_room, passed, popped, same, with_top, born, create_process, new_part, stop_answer, stop_job, reports, on_gate, on_cell, io_begins, call0, call1, call2, call3, call4, call5, call6, call7, call8, call9, call10, call11, kernel}

@@ -1,6 +1,6 @@
 -- Waiting and waking, the slices, the end of a process and a new one keep every process in its place
 use mathlib.Core.Path.{◌≡◌, refl, subst}
-use mathlib.Core.Bool.{Bool, true, false, ◌||◌}
+use mathlib.Core.Bool.{Bool, true, false}
 use Prim.Native.Nat.{ℕ, zero, suc, ◌+◌, ◌-◌, ◌<◌, ◌≤◌}
 use native.Mathlib.Omega.{arith}
 use lib.Dec.{ltb, leb, eqb}
@@ -10,15 +10,15 @@ use Rattle.notation.proofs.Upto.{split}
 use Rattle.machine.specs.declared.Process.{Process}
 use Rattle.machine.specs.declared.Device.{Device}
 use Rattle.machine.specs.declared.Machine.{Machine}
-use Rattle.machine.specs.State.{nobody, proc, ready, device, with_process}
+use Rattle.machine.specs.State.{nobody, proc, device, with_process}
 use Rattle.machine.specs.Queue.{first, rest}
-use Rattle.machine.specs.Classes.{set_running, push, wake, set_class, some_ready, best}
+use Rattle.machine.specs.Classes.{set_running, push, wake, set_class, best}
 use Rattle.machine.specs.Clock.{clock_wait, bell_wait, clock_one, clock_wake, bell_one, bell_wake, next_second, time_passes, fallen, sliced, yields, slice_passes, tick, bell}
 use Rattle.machine.specs.Device.{with_device, device_start, device_end}
 use Rattle.machine.specs.Call.{born, create_process, finish}
 use Rattle.kept.proofs.Steady.{Steady, steady_sliced}
 use Rattle.kept.proofs.Nearly.{works, Nearly, Placed, Sound, Alone, in_hand, in_run}
-use Rattle.kept.proofs.Moves.{empty_hand, unmark, take_running, put_running, put-ready, line, with_line, lined, put-line, take-line, seat, put-device, remade, finished}
+use Rattle.kept.proofs.Moves.{empty_hand, unmark, take_running, put-ready, line, with_line, lined, put-line, take-line, seat, put-device, remade, finished}
 use Rattle.kept.proofs.Frames.{retimed}
 use Rattle.kept.proofs.Born.{one-born}
 use Rattle.kept.proofs.Selected.{select-sound}

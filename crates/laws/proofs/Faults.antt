@@ -12,7 +12,6 @@ use Rattle.machine.specs.Store.{Place, in_common, in_own, nowhere}
 use Rattle.machine.specs.View.{View, Out, next, faults, calls, Effect, effect, n, op, arg, past, local, top, under, faulted, needs_code, needs_words, to_target, needs_room, pushes, replaces, stays, located, fetched, stores}
 use Rattle.machine.specs.Job.{end_job, takes_stop}
 use Rattle.machine.specs.Instruction.{newline, pushconst, pushind, copyword, localaddr, pop, index, range, unary, binary, jump, falsejump, to_case, casejump, call, enter, exit, callprog, exitprog, ktrap, perform, execute, settled, instruct}
-use Rattle.machine.specs.Call.{kernel}
 use Rattle.laws.specs.Faults.{FaultsKeep, StopsKeep, CallsKeep}
 
 abbrev Stored : View → Out → List ℕ → List ℕ → Type 0

@@ -1,8 +1,8 @@
 -- One instruction keeps the marks in their order, touches only the common store and the process's own part, and in a job
 -- writes nothing outside the job's region
-use Rattle.std.specs.Prelude.{◌≡◌, true, ◌⊎◌, List, ℕ, ◌+◌, ◌<◌, ◌≤◌, length, get_or}
+use Rattle.std.specs.Prelude.{◌≡◌, true, ◌⊎◌, ℕ, ◌+◌, ◌<◌, ◌≤◌, length, get_or}
 use Rattle.machine.specs.declared.Regs.{Regs}
-use Rattle.machine.specs.View.{View, next, Effect, n}
+use Rattle.machine.specs.View.{View, next, n}
 use Rattle.machine.specs.Instruction.{instruct}
 use Rattle.machine.specs.Sound.{job_ok}
 

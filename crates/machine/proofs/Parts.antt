@@ -15,7 +15,7 @@ use Rattle.machine.specs.declared.Process.{Process}
 use Rattle.machine.specs.declared.Machine.{Machine}
 use Rattle.machine.specs.declared.gates.Handed.{Handed}
 use Rattle.machine.specs.State.{nobody, no_gate, no_process, gate, proc, started, with_process}
-use Rattle.machine.specs.Classes.{push, set_running, some_ready, wake}
+use Rattle.machine.specs.Classes.{push, wake}
 use Rattle.machine.specs.Queue.{rest}
 use Rattle.machine.specs.Gate.{advance, cell, give_up, grant, hand_on, pass, sit}
 use Rattle.machine.specs.Parts.{handed_on, hand_over, lost_gate, resumed}

@@ -1,12 +1,12 @@
 -- The kernel calls of document 01, numbers 0 to 11, by the running process
-use Rattle.std.specs.Prelude.{Bool, true, false, ◌&&◌, ◌||◌, not, List, ◌++◌, ℕ, ◌+◌, ◌-◌, ◌*◌, ltb, leb, eqb, get_or, set, take, drop, replicate}
+use Rattle.std.specs.Prelude.{Bool, true, ◌&&◌, ◌||◌, not, List, ◌++◌, ℕ, ◌+◌, ◌-◌, ◌*◌, ltb, leb, eqb, get_or, set, take, drop, replicate}
 use Rattle.notation.specs.If.{if}
 use Rattle.notation.specs.Upto.{list_to}
 use Rattle.machine.specs.declared.Regs.{Regs}
 use Rattle.machine.specs.declared.Process.{Process}
 use Rattle.machine.specs.declared.Machine.{Machine}
 use Rattle.machine.specs.State.{nobody, proc, floor_of, parts, more, started, with_process, with_regs, changed}
-use Rattle.machine.specs.Store.{World, own, Place, place_of, whole, word_in, common_with, private_with}
+use Rattle.machine.specs.Store.{World, own, place_of, whole, word_in}
 use Rattle.machine.specs.View.{marks}
 use Rattle.machine.specs.Classes.{set_running, wake}
 use Rattle.machine.specs.Gate.{enter, leave, delay, continue, make_gate, may_enter, may_leave, may_delay, may_continue}

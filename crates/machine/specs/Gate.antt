@@ -1,5 +1,5 @@
 -- Gates: enter, leave, delay, continue, new gate
-use Rattle.std.specs.Prelude.{Bool, true, false, ◌&&◌, not, ℕ, ◌+◌, ◌-◌, ltb, leb, eqb, get_or, set, List}
+use Rattle.std.specs.Prelude.{Bool, ◌&&◌, not, ℕ, ◌+◌, ◌-◌, ltb, leb, eqb, get_or, set, List}
 use Rattle.notation.specs.If.{if}
 use Rattle.machine.specs.declared.Queue.{Queue}
 use Rattle.machine.specs.declared.Process.{Process}

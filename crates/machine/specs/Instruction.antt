@@ -1,5 +1,5 @@
 -- The instructions of document 01, codes 0 to 28, in its order, and one instruction with its job
-use Rattle.std.specs.Prelude.{Bool, true, false, ◌&&◌, ◌||◌, ℕ, ◌+◌, ◌-◌, ltb, leb, eqb, set}
+use Rattle.std.specs.Prelude.{true, ◌&&◌, ◌||◌, ℕ, ◌+◌, ◌-◌, ltb, leb, eqb, set}
 use Rattle.notation.specs.If.{if}
 use Rattle.word.specs.Word.{Reckoned, word, fault, unary_w, binary_w, local_addr_w, range_w, index_w, case_w}
 use Rattle.machine.specs.declared.Regs.{Regs}

@@ -1,5 +1,5 @@
 -- What the world may offer: a step, a run, a tick, a done, a bell. Each is taken, or refused by its number in the table's order
-use Rattle.std.specs.Prelude.{Bool, ◌&&◌, ◌||◌, not, List, [], ◌∷◌, ℕ, ltb, leb, eqb, length}
+use Rattle.std.specs.Prelude.{Bool, ◌&&◌, ◌||◌, not, List, [], ◌∷◌, ℕ, ltb, eqb, length}
 use Rattle.image.specs.Refusal.{Reply, taken, refused, ◌then◌}
 use Rattle.image.specs.Read.{refuse}
 use Rattle.machine.specs.declared.Machine.{Machine}

@@ -1,9 +1,8 @@
 -- "A sound state", sentence by sentence
-use Rattle.std.specs.Prelude.{Bool, true, false, ◌&&◌, ◌||◌, not, ℕ, ◌+◌, ◌%◌, ltb, leb, eqb, get_or}
+use Rattle.std.specs.Prelude.{Bool, ◌&&◌, ◌||◌, not, ℕ, ◌+◌, ◌%◌, ltb, leb, eqb, get_or}
 use Rattle.notation.specs.If.{if}
 use Rattle.notation.specs.Upto.{sum_to, all_to}
 use Rattle.word.specs.Word.{bit}
-use Rattle.image.specs.declared.head.Header.{Header}
 use Rattle.image.specs.Header.{good_header}
 use Rattle.machine.specs.declared.Queue.{Queue}
 use Rattle.machine.specs.declared.Gate.{Gate}

@@ -1,8 +1,8 @@
 -- One step: an instruction of the running process, with its kernel call and the selection after it
-use Rattle.std.specs.Prelude.{Bool, true, false, ◌&&◌, ◌||◌, not, List, [], ◌∷◌, ℕ, zero, suc, ◌+◌, ◌-◌, ltb, leb, eqb, length}
+use Rattle.std.specs.Prelude.{List, ℕ, ltb, leb}
 use Rattle.notation.specs.If.{if}
 use Rattle.machine.specs.declared.Machine.{Machine}
-use Rattle.machine.specs.State.{nobody, going, proc, floor_of, timed, with_process, with_regs}
+use Rattle.machine.specs.State.{nobody, proc, floor_of, timed, with_process, with_regs}
 use Rattle.machine.specs.Store.{World, part_of, with_part}
 use Rattle.machine.specs.View.{View, Out, next, faults, calls, Effect}
 use Rattle.machine.specs.Instruction.{instruct}

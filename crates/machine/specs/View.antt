@@ -1,5 +1,5 @@
 -- What an instruction sees and does, and the words that document 01's "Instructions" are told in
-use Rattle.std.specs.Prelude.{Bool, true, false, ◌&&◌, ◌||◌, not, List, ◌++◌, ℕ, ◌+◌, ◌-◌, ltb, leb, length, get_or, set, take, drop, replicate}
+use Rattle.std.specs.Prelude.{Bool, ◌&&◌, ◌||◌, not, List, ◌++◌, ℕ, ◌+◌, ◌-◌, ltb, leb, length, get_or, set, take, drop, replicate}
 use Rattle.notation.specs.If.{if}
 use Rattle.word.specs.Word.{Reckoned, word, fault}
 use Rattle.machine.specs.declared.Regs.{Regs}

@@ -7,6 +7,7 @@ ghost use Rattle.machine.specs.Gate.{latest, may_enter, may_leave, may_continue,
 use machine::{Gate, Machine, Process};
 
 // The latest gate entered; of none the first of the list, of a list too long 0.
+#[tactic(auto, using(machine::proofs::Laws::past))]
 fn latest(p: Process) -> u8
     ensures { result ≡ latest p }
 {

@@ -10,6 +10,7 @@ use crate::ready::{set_running, wake};
 use machine::{Device, Machine};
 
 // Class 1, but 0 while holding a gate.
+#[tactic(auto, using(machine::proofs::Laws::cases))]
 fn class_after(holds: u8) -> u8
     ensures { result ≡ if (eqb holds 0) 1 0 }
 {

@@ -115,6 +115,7 @@ pub fn stop_answer(
 }
 
 // Of a process there is: 2 no job, 3 reason outside 16 to 255, 4 already stopped.
+#[tactic(auto, using(machine::proofs::Laws::cases))]
 fn answer_of(r: Regs, reason: u16) -> u16
     ensures { result ≡ if (not r.in_job) 2 (if (ltb reason 16 || ltb 255 reason) 3 (if (not (eqb r.reason 0)) 4 0)) }
 {

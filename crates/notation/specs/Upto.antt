@@ -1,5 +1,5 @@
 -- What is said of the numbers below n: a sum, a test of all, a list, a list laid over another, a search for the first
-use Rattle.std.specs.Prelude.{Bool, true, false, ◌&&◌, List, [], ◌∷◌, ◌++◌, ℕ, zero, suc, ◌+◌, drop}
+use Rattle.std.specs.Prelude.{Bool, true, ◌&&◌, List, [], ◌∷◌, ◌++◌, ℕ, zero, suc, ◌+◌, drop}
 use Rattle.notation.specs.If.{if}
 
 -- f 0 + f 1 + .. + f (n - 1)

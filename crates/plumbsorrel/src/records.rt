@@ -27,6 +27,7 @@ fn check_sound(u: Unpacked) -> Check
 }
 
 // 9: no such device, or it is not busy.
+#[tactic(auto, using(machine::proofs::Laws::cases))]
 fn check_busy(m: Machine, d: u16) -> Check
     ensures { check_says result ≡ refuse 9 (ltb 4 d || not (is_busy m d)) }
 {

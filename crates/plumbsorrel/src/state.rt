@@ -14,6 +14,7 @@ use image::{Check, Refusal};
 use run::Offered;
 
 // 7: words that no machine packs to.
+#[tactic(auto, using(machine::proofs::Laws::cases))]
 pub(crate) fn check_known(known: bool) -> Check
     ensures { check_says result ≡ refuse 7 (not known) }
 {

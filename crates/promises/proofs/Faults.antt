@@ -6,7 +6,6 @@ use Prim.Native.Nat.{ℕ}
 use lib.Dec.{leb}
 use borrow.Author.Tests.{lt-ltb, lt-leb}
 use Rattle.notation.proofs.Upto.{split, never}
-use Rattle.word.specs.Word.{fault}
 use Rattle.machine.specs.View.{Out, next, faults, calls, Effect, n}
 use Rattle.machine.specs.Job.{end_job}
 use Rattle.machine.specs.Instruction.{instruct}

@@ -1,12 +1,11 @@
 -- Document 01's worked examples: one statement over the definitions
-use Rattle.std.specs.Prelude.{◌≡◌, Bool, true, false, List, [], ◌∷◌, ℕ, ◌-◌, pos, negsuc, get_or, set, replicate}
+use Rattle.std.specs.Prelude.{◌≡◌, true, false, List, [], ◌∷◌, ℕ, ◌-◌, negsuc, get_or, set, replicate}
 use Rattle.word.specs.Word.{word_of, word, fault, add_w, div_w, range_w}
-use Rattle.image.specs.declared.head.Header.{Header}
 use Rattle.machine.specs.declared.Regs.{Regs}
 use Rattle.machine.specs.declared.Machine.{Machine}
-use Rattle.machine.specs.State.{nobody, proc, gate, fresh, timed}
+use Rattle.machine.specs.State.{nobody, gate, fresh, timed}
 use Rattle.machine.specs.Queue.{queue_of}
-use Rattle.machine.specs.View.{View, Out, next, Effect}
+use Rattle.machine.specs.View.{View, next}
 use Rattle.machine.specs.Instruction.{instruct}
 use Rattle.machine.specs.Classes.{select}
 use Rattle.machine.specs.Gate.{cell, enter, leave, delay, continue, make_gate, may_enter, may_leave, may_delay, may_continue}

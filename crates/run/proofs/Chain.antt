@@ -4,9 +4,9 @@ use mathlib.Core.Bool.{Bool, true, false, not, ◌&&◌, ◌||◌, and-false}
 use mathlib.Core.List.{List, []}
 use Prim.Native.Nat.{ℕ, ◌≤◌, ◌<◌}
 use native.Mathlib.Omega.{arith}
-use lib.Dec.{ltb, leb, eqb}
+use lib.Dec.{ltb, eqb}
 use lib.ListN.{length}
-use borrow.Author.Tests.{ltb-true, ltb-false, lt-ltb, eqb-true, not-false}
+use borrow.Author.Tests.{ltb-false, lt-ltb, eqb-true, not-false}
 use Rattle.notation.specs.Upto.{all_to}
 use Rattle.notation.proofs.Upto.{both, neither, all_at}
 use Rattle.image.specs.declared.table.Refusal.{Refusal}
@@ -16,7 +16,7 @@ use Rattle.image.specs.Refusal.{Reply, taken, refused as refusedR, named, refuse
 use Rattle.image.specs.Read.{refuse}
 use Rattle.image.proofs.Laws.{passed, both_taken}
 use Rattle.machine.specs.declared.Machine.{Machine}
-use Rattle.machine.specs.State.{nobody, going, device}
+use Rattle.machine.specs.State.{going, device}
 use Rattle.machine.specs.Store.{World, whole}
 use Rattle.machine.specs.Device.{is_busy, device_done}
 use Rattle.machine.specs.Sound.{sound, device_ok}
@@ -82,6 +82,8 @@ busy_passes m d status e b = rw (e, b)
 
 pub idle-fails : (m : Machine) (d status : ℕ) → ltb 6 status || ltb 4 d ≡ false → is_busy m d ≡ false → refusedR 9 [] ≡ refusal9 m d status
 idle-fails m d status e b = rw (e, b)
+
+pub ruleset done = (out, inside, busy_passes, idle-fails)
 
 -- ---- what is known of a done event that passed
 pub record Event (m : Machine) (d status : ℕ) (c q : List ℕ) : Type 0 where

@@ -15,7 +15,7 @@ use Rattle.machine.specs.declared.Process.{Process}
 use Rattle.machine.specs.declared.Gate.{Gate}
 use Rattle.machine.specs.declared.Machine.{Machine}
 use Rattle.machine.specs.State.{nobody, no_process, proc, floor_of, with_process, with_regs}
-use Rattle.machine.specs.Store.{World, part_of, with_part}
+use Rattle.machine.specs.Store.{World, part_of}
 use Rattle.machine.specs.View.{View, Out, next, faults, calls, Effect}
 use Rattle.machine.specs.Instruction.{instruct}
 use Rattle.machine.specs.Classes.{selects}

@@ -1,10 +1,10 @@
 -- Loading: the table's checks one after the other, and what is left where they pass
 use mathlib.Core.Path.{◌≡◌, refl, sym, ◌∙◌, ap}
-use mathlib.Core.Bool.{Bool, true, false, not, ◌&&◌}
+use mathlib.Core.Bool.{not}
 use mathlib.Core.List.{List, []}
 use Prim.Native.Nat.{ℕ}
 use lib.Dec.{eqb}
-use lib.ListN.{length, get_or, replicate}
+use lib.ListN.{length, replicate}
 use borrow.Author.Tests.{eqb-true, not-false}
 use Rattle.notation.specs.Upto.{laid}
 use Rattle.notation.proofs.Upto.{both, laid-whole}
@@ -18,12 +18,12 @@ use Rattle.image.specs.declared.reader.Reading.TheVariants.{Accepted, Refused}
 use Rattle.image.specs.Refusal.{Reply, taken, refused, number_of, named, ◌then◌, check_says}
 use Rattle.image.specs.Block.{word_at}
 use Rattle.image.specs.Header.{fields, header_of}
-use Rattle.image.specs.Read.{refuse, refusal10, image_rows, examined, checks, read_says, code_at, copied}
+use Rattle.image.specs.Read.{refuse, refusal10, examined, checks, read_says}
 use Rattle.image.proofs.Laws.{passed, over_all, through_all, header_from, examined-refuses, examined_accepts, checked-fits, copied-fits}
 use Rattle.machine.specs.State.{fresh}
 use Rattle.machine.specs.Offer.{stores_fit}
-use Rattle.machine.specs.Load.{Loading, loaded, unloaded, loaded_by, loads}
-use Rattle.run.specs.Loaded.{empty, SetUp, set_up, after_set_up, LoadOutcome, load_left, load_outcome}
+use Rattle.machine.specs.Load.{Loading, unloaded, loaded_by, loads}
+use Rattle.run.specs.Loaded.{empty, SetUp, set_up, after_set_up, load_outcome}
 
 -- ---- rows 1 to 5, then 6, then 10
 module _ (bytes : List ℕ) (x : Reading) (e : read_says x ≡ examined bytes) (lent : Reply) (room : ℕ) where
@@ -49,6 +49,8 @@ module _ (bytes : List ℕ) (x : Reading) (e : read_says x ≡ examined bytes) (
         let n : word_at bytes 2 ≡ h.length = ap (λ (z : Header). z.length) p.1 in
         let a : after_5 ≡ check_says j = rw (← f, u, n, ← g) in
         rw (p.0, a) (ap (λ (l : List ℕ). check_says j then taken l) (sym (ap fields p.1)))
+
+pub ruleset loading = (unread, lent_wrong_lem, lent_right)
 
 -- ---- what is left
 loaded_by_lem : (x : Reply) (vs : List ℕ) (l : Loading) → taken vs ≡ x → loaded_by x l ≡ l

@@ -1,5 +1,5 @@
 -- What loading answers and leaves, in the words of the definitions
-use Rattle.std.specs.Prelude.{List, [], ℕ, length, replicate}
+use Rattle.std.specs.Prelude.{List, ℕ, length, replicate}
 use Rattle.image.specs.declared.head.Header.{Header}
 use Rattle.image.specs.Refusal.{Reply, taken, refused}
 use Rattle.image.specs.Header.{fields, header_of}

@@ -14,7 +14,6 @@ use Rattle.machine.specs.Offer.{stores_fit}
 use Rattle.machine.specs.Shape.{Shaped}
 use Rattle.engine.specs.declared.burst.Burst.{Burst}
 use Rattle.engine.specs.Burst.{Ending, at_budget, at_call, at_fault, at_jobs_end, unfit, Bursted, end_says, bursts}
-use Rattle.kernel.specs.declared.answer.Decision.{Decision}
 use Rattle.kernel.specs.declared.caller.Caller.{Caller}
 use Rattle.kernel.specs.Did.{Outcome, outcome, able, caller_of, decided, traps}
 use Rattle.run.specs.declared.answer.Ended.{Ended as End}

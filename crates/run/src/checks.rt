@@ -44,6 +44,7 @@ fn check_sound(m: Machine) -> Check
 }
 
 // 8: machine stopped.
+#[tactic(auto, using(machine::proofs::Laws::cases))]
 fn check_going(m: Machine) -> Check
     ensures { check_says result ≡ refusal8 m }
 {
@@ -77,6 +78,7 @@ pub(crate) fn check_run(m: Machine, code: usize, common: usize, private: usize) 
 }
 
 // 9: bad done event: status above 6, no such device, device not busy.
+#[tactic(auto, using(machine::proofs::Laws::cases, crate::proofs::Chain::done))]
 fn check_done(m: Machine, d: u16, status: u16) -> Check
     ensures { check_says result ≡ refusal9 m d status }
 {

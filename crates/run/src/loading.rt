@@ -44,6 +44,7 @@ fn clear(words: &mut [u16])
 }
 
 // 1 to 6 and 10, in the table's order: the first refusal returns at once.
+#[tactic(auto, using(crate::proofs::Loads::loading))]
 pub fn check_load(image: &[u8], code: usize, common: usize, private: usize) -> Reading
     ensures { read_says result ≡ (checks image.now (refuse 6 (not (lengths_fit common private))) code then taken (fields (header_of image.now))) }
 {

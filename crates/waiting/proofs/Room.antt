@@ -1,11 +1,10 @@
 -- How many selections are left for one who stands at k, from 0, where the count is n: one selection takes one away
-use mathlib.Core.Path.{◌≡◌, refl}
-use mathlib.Core.Bool.{true, false, ◌&&◌}
+use mathlib.Core.Path.{◌≡◌}
+use mathlib.Core.Bool.{◌&&◌}
 use Prim.Native.Nat.{ℕ, suc, ◌+◌, ◌-◌, ◌*◌, ◌<◌, ◌≤◌}
 use native.Mathlib.Omega.{arith}
 use lib.Dec.{ltb, leb, eqb}
-use borrow.Author.Tests.{eqb-true, eqb-false, ltb-true, leb-true, leb-false, lt-ltb, ne_eqb}
-use Rattle.notation.specs.If.{if}
+use borrow.Author.Tests.{leb-true, leb-false, lt-ltb, ne_eqb}
 use Rattle.notation.proofs.Upto.{split, both}
 use Rattle.machine.specs.declared.Machine.{Machine}
 use Rattle.machine.specs.State.{ready}

@@ -1,9 +1,9 @@
 -- Who is ready keeps his place until a selection from his class moves him up, and runs within the selections left
 use mathlib.Core.Path.{◌≡◌, refl, sym, ap, ◌∙◌}
-use mathlib.Core.Bool.{Bool, true, false}
-use mathlib.Core.List.{List, [], ◌∷◌, ◌++◌}
+use mathlib.Core.Bool.{true, false}
+use mathlib.Core.List.{List, [], ◌∷◌}
 use mathlib.Core.Logic.{⊎_elim}
-use Prim.Native.Nat.{ℕ, zero, suc, ◌+◌, ◌-◌, ◌*◌, ◌/◌, ◌<◌, ◌≤◌}
+use Prim.Native.Nat.{ℕ, zero, suc, ◌+◌, ◌-◌, ◌<◌, ◌≤◌}
 use native.Mathlib.Omega.{arith}
 use lib.Dec.{eqb}
 use borrow.Author.Tests.{eqb-true, eqb-false}
@@ -12,14 +12,14 @@ use Rattle.word.specs.Word.{bit}
 use Rattle.machine.specs.declared.Machine.{Machine}
 use Rattle.machine.specs.State.{ready}
 use Rattle.machine.specs.Store.{World}
-use Rattle.machine.specs.Classes.{source, count_from, selection}
+use Rattle.machine.specs.Classes.{source, count_from}
 use Rattle.machine.specs.Offer.{Offer, offer, after, after_all}
 use Rattle.waiting.specs.Count.{count_in}
 use Rattle.waiting.specs.Selection.{selects_at, selects_from}
 use Rattle.waiting.specs.Waiting.{selections_in, selections_from, RunsWithin}
 use Rattle.waiting.proofs.Places.{Stands}
 use Rattle.waiting.proofs.Ready.{line, Tidy}
-use Rattle.waiting.proofs.Taken.{Rested, Selected, Turn, turn, selection-runs, selection_moves, selection_keeps, selection_tidy, selection-count}
+use Rattle.waiting.proofs.Taken.{Selected, turn, selection-runs, selection_moves, selection_keeps, selection_tidy, selection-count}
 use Rattle.waiting.proofs.Room.{Rule}
 
 module _ (code : List ℕ) where

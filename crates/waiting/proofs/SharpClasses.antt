@@ -20,7 +20,7 @@ use Rattle.machine.specs.Offer.{offer_step, offer_tick, Offer, a_step, a_tick, o
 use Rattle.machine.specs.Shape.{Shaped}
 use Rattle.waiting.specs.Count.{count_in}
 use Rattle.waiting.specs.Selection.{selects_from, step_ends, tick_ends}
-use Rattle.waiting.specs.Waiting.{InPlace, selections_in, selections_from, bound0, bound2}
+use Rattle.waiting.specs.Waiting.{InPlace, selections_in, selections_from}
 use Rattle.waiting.specs.SharpClasses.{SharpRun, waiting, steps, behind, last, SharpRuns}
 use Rattle.waiting.proofs.Offers.{count-first}
 use Rattle.waiting.proofs.Sharp.{fits, shape}

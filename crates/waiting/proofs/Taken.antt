@@ -1,30 +1,29 @@
 -- What an offer does to the classes and the count: nobody leaves his place, or one selection is made
-use mathlib.Core.Path.{◌≡◌, refl, sym, ap, ◌∙◌}
+use mathlib.Core.Path.{◌≡◌, refl, sym, ◌∙◌}
 use mathlib.Core.Bool.{Bool, true, false, ◌&&◌}
 use mathlib.Core.List.{List}
 use mathlib.Core.Logic.{◌⊎◌, inl, inr}
-use Prim.Native.Nat.{ℕ, suc, ◌+◌, ◌-◌, ◌<◌, ◌≤◌}
+use Prim.Native.Nat.{ℕ, suc, ◌<◌, ◌≤◌}
 use native.Mathlib.Omega.{arith}
 use lib.Dec.{ltb, leb, eqb}
-use lib.ListN.{length, get_or, length-set}
+use lib.ListN.{length-set}
 use lib.Seq.{get_or-set_same, get_or-set_other}
 use borrow.Author.Tests.{eqb-true, eqb-false, ltb-true}
-use Rattle.notation.specs.If.{if}
 use Rattle.notation.proofs.Upto.{split}
 use Rattle.image.specs.Refusal.{Reply, taken, refused}
 use Rattle.machine.specs.declared.Queue.{Queue}
 use Rattle.machine.specs.declared.Machine.{Machine}
-use Rattle.machine.specs.State.{nobody, no_queue, proc, ready}
+use Rattle.machine.specs.State.{nobody, no_queue, ready}
 use Rattle.machine.specs.Store.{World}
 use Rattle.machine.specs.Queue.{rest}
-use Rattle.machine.specs.Classes.{set_running, pull, wake, some_ready, start, source, count_from, selection, aside, selects, select}
+use Rattle.machine.specs.Classes.{set_running, pull, some_ready, start, source, count_from, selection, aside, selects, select}
 use Rattle.machine.specs.Offer.{offered, Offer, offer, after}
 use Rattle.waiting.specs.Count.{accepted}
 use Rattle.waiting.specs.Selection.{Ending, ends, takes, takes_from, selects_at, selects_from, Chosen}
 use Rattle.waiting.proofs.Places.{Stands, stands-rest}
 use Rattle.waiting.proofs.Replies.{reply_to, doing, offer_is}
 use Rattle.waiting.proofs.Selection.{doing_chosen}
-use Rattle.waiting.proofs.Ready.{Line, line, Tidy, Grown, alike, also, wakes, Grows, grows, nothing, ends_grown}
+use Rattle.waiting.proofs.Ready.{line, Tidy, Grown, alike, also, wakes, Grows, grows, nothing, ends_grown}
 
 rest-few : (q : Queue) → q.len ≤ 10 → (rest q).len ≤ 10
 unfolding rest

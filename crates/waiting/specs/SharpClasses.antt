@@ -1,11 +1,10 @@
 -- The bounds cannot be smaller: worlds in which a process runs at the selection of its bound, and not before
-use Rattle.std.specs.Prelude.{◌≡◌, true, false, List, [], ◌∷◌, ◌++◌, ℕ, ◌+◌, ltb, leb, set, replicate}
+use Rattle.std.specs.Prelude.{◌≡◌, true, false, List, [], ◌∷◌, ◌++◌, ℕ, ◌+◌, ltb, replicate}
 use Rattle.notation.specs.If.{if}
 use Rattle.notation.specs.Upto.{list_to}
 use Rattle.machine.specs.declared.Queue.{Queue}
 use Rattle.machine.specs.declared.Process.{Process}
 use Rattle.machine.specs.declared.Gate.{Gate}
-use Rattle.machine.specs.declared.Machine.{Machine}
 use Rattle.machine.specs.State.{nobody, going, new_queue, new_gate, new_device, started, changed, ready}
 use Rattle.machine.specs.Store.{World}
 use Rattle.machine.specs.Gate.{entered}

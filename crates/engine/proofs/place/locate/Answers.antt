@@ -17,6 +17,7 @@ returns-then-wide c = L.located-above _ _ _ c.if-r.true (omega arith) (omega ari
 pub returns : goal.returns
 returns c =
     c.place_of.ensures
-    ∙ sym (elim c.if-r.branch
-    [ then-r+else-a-floor+else-wide w ↦ L.located_inside _ _ _ w.if-r.true w.if-a-floor.false (omega arith)
-    | else-r w ↦ L.located_outside _ _ _ w.if-r.false ])
+    ∙ sym (elim c.if-r.branch [
+      | then-r+else-a-floor+else-wide w ↦ L.located_inside _ _ _ w.if-r.true w.if-a-floor.false (omega arith)
+      | else-r w ↦ L.located_outside _ _ _ w.if-r.false
+    ])

@@ -1,5 +1,5 @@
 -- Each turn adds a word of each strip to the wrapping sum, and after 32 turns that is the sum of all.
-use Rattle.std.proofs.Common.{◌≡◌, ℕ, ◌+◌, ◌-◌, ◌*◌, ◌%◌, List, refl, ap, ◌∙◌, arith, rules}
+use Rattle.std.proofs.Common.{◌≡◌, ℕ, ◌%◌, refl, ap, ◌∙◌, arith, rules}
 use Rattle.notation.specs.Upto.{sum_to}
 use Rattle.notation.proofs.Upto.{sum_strips}
 use Rattle.image.specs.Block.{word_at}

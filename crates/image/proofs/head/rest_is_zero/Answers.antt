@@ -1,5 +1,5 @@
 -- Each turn tests one word more, and after 250 turns all words after the fields are tested.
-use Rattle.std.proofs.Common.{◌≡◌, ◌-◌, eqb, refl, ap, arith, rules}
+use Rattle.std.proofs.Common.{◌≡◌, eqb, refl, ap, arith, rules}
 use Rattle.notation.specs.Upto.{all_to}
 use Rattle.image.proofs.Laws as L
 use Rattle.image.proofs.head.rest_is_zero.Goals as goal

@@ -1,7 +1,6 @@
 -- What is left to search gives the same first bad block: the loop ends at that block, or past the last one.
 use Rattle.std.proofs.Common.{◌≡◌, ◌-◌, ◌/◌, not, length, sym, ap, ◌∙◌, arith, rules, le-ltb, lt-ltb}
 use Rattle.notation.proofs.Upto.{first_here, first_next, first_through}
-use Rattle.image.specs.Block.{block_at, good_block}
 use Rattle.image.specs.Read.{refusal2}
 use Rattle.image.proofs.Laws as L
 use Rattle.image.proofs.reader.check_blocks.Goals as goal

@@ -1,8 +1,6 @@
 -- A check that refuses ends the chain of the definition, and one that passes hands it on to the next.
-use Rattle.std.proofs.Common.{◌≡◌, ℕ, ◌≤◌, List, length, ap, arith}
-use Rattle.image.specs.Refusal.{Reply, ◌then◌}
+use Rattle.std.proofs.Common.{◌≡◌, ap, arith}
 use Rattle.image.specs.Block.{word_at}
-use Rattle.image.specs.Read.{refusal1, refusal2, refusal3, refusal4}
 use Rattle.image.proofs.Laws as L
 use Rattle.image.proofs.reader.check_image.Goals as goal
 

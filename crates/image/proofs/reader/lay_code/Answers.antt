@@ -1,5 +1,5 @@
 -- Each turn lays the content of one block more over the buffer; what is left of the code stands in one more block, or there is none.
-use Rattle.std.proofs.Common.{◌≡◌, ◌+◌, ◌-◌, ◌*◌, ◌/◌, sym, refl, arith, rules}
+use Rattle.std.proofs.Common.{◌≡◌, ◌+◌, ◌*◌, ◌/◌, sym, refl, arith, rules}
 use Rattle.notation.proofs.Upto.{laid_none}
 use Rattle.image.proofs.Laws as L
 use Rattle.image.proofs.reader.lay_code.Goals as goal

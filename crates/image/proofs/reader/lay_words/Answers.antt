@@ -1,5 +1,5 @@
 -- Each turn lays one word more over the part.
-use Rattle.std.proofs.Common.{◌≡◌, ◌-◌, length, sym, refl, ◌∙◌, arith, length-set, rules}
+use Rattle.std.proofs.Common.{◌≡◌, length, sym, refl, ◌∙◌, arith, length-set, rules}
 use Rattle.notation.proofs.Upto.{laid_none, laid_more, laid-whole}
 use Rattle.image.proofs.reader.lay_words.Goals as goal
 

@@ -1,8 +1,4 @@
 -- A check that refuses ends the chain of the definition, and one that passes hands it on to the next.
-use Rattle.std.proofs.Common.{◌≡◌, not}
-use Rattle.image.specs.Refusal.{Reply, ◌then◌}
-use Rattle.image.specs.Header.{good_header}
-use Rattle.image.specs.Read.{refuse}
 use Rattle.image.specs.Write.{write_checks}
 use Rattle.image.proofs.Laws as L
 use Rattle.image.proofs.writer.check_all.Goals as goal

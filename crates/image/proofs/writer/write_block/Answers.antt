@@ -1,5 +1,5 @@
 -- Each turn lays one word more of the block and adds it to the sum; the last word makes the sum 65,535.
-use Rattle.std.proofs.Common.{◌≡◌, ◌-◌, ◌%◌, sym, refl, ◌∙◌, arith, rules}
+use Rattle.std.proofs.Common.{◌≡◌, ◌%◌, sym, refl, ◌∙◌, arith, rules}
 use Rattle.notation.specs.Upto.{sum_to}
 use Rattle.notation.proofs.Upto.{laid_none, laid-whole}
 use Rattle.image.specs.Write.{body, check}

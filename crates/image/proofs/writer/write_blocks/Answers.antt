@@ -1,5 +1,5 @@
 -- Each turn lays one block more of the image over the output.
-use Rattle.std.proofs.Common.{◌≡◌, ◌-◌, sym, refl, arith, rules}
+use Rattle.std.proofs.Common.{◌≡◌, sym, refl, arith, rules}
 use Rattle.notation.proofs.Upto.{laid_none}
 use Rattle.image.proofs.Laws as L
 use Rattle.image.proofs.writer.write_blocks.Goals as goal

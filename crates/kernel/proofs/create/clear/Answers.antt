@@ -1,6 +1,5 @@
 -- The invariant: the words passed are zero, and the others are as they were. The measure is how many are left.
 use mathlib.Core.Path.{◌≡◌, refl}
-use Prim.Native.Nat.{◌-◌}
 use native.Mathlib.Omega.{arith}
 use lib.ListN.{length-set}
 use Rattle.kernel.proofs.Part.{part_none, part_more, zeros}

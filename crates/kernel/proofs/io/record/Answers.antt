@@ -1,7 +1,6 @@
-use native.Mathlib.Omega.{arith}
 use borrow.Author.Tests.{not-true, not-false}
 use Rattle.machine.specs.State.{device}
-use Rattle.kernel.proofs.Records.{fit, four, handed_common, handed_idle, handed_own, handed_unfit, known, whole-high, whole-low}
+use Rattle.kernel.proofs.Records.{fit, four, handed_common, handed_idle, handed_own, handed_unfit, known}
 use Rattle.kernel.proofs.io.record.Goals as goal
 
 pub returns-then-not-fit : goal.returns-then-not-fit

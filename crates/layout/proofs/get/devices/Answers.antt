@@ -1,6 +1,6 @@
 -- The invariant: the first parts are read. The measure is how many are left.
 use mathlib.Core.List.{append-nil}
-use Prim.Native.Nat.{◌-◌, ◌+◌, ◌*◌}
+use Prim.Native.Nat.{◌+◌, ◌*◌}
 use Rattle.layout.specs.Layout.{from, device_of, bytes}
 use Rattle.notation.proofs.Upto.{all_at, laid_none, laid_more}
 use borrow.Author.Rules.{rules}

@@ -1,4 +1,3 @@
-use Prim.Native.Nat.{◌-◌}
 use Rattle.layout.proofs.Laws.{byte_at}
 use Rattle.notation.proofs.Upto.{laid_none, laid_more, laid-whole}
 use borrow.Author.Rules.{rules}

@@ -1,6 +1,6 @@
 -- The invariant: the first parts are read. The measure is how many are left.
 use mathlib.Core.List.{append-nil}
-use Prim.Native.Nat.{◌-◌, ◌+◌, ◌*◌}
+use Prim.Native.Nat.{◌+◌, ◌*◌}
 use Rattle.layout.proofs.Laws.{some_bytes}
 use Rattle.layout.specs.Layout.{from, gate_of}
 use Rattle.notation.proofs.Upto.{laid_none, laid_more}

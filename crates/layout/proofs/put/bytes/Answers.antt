@@ -1,5 +1,4 @@
 -- The invariant: the first k stand in their words. The measure is how many are left.
-use Prim.Native.Nat.{◌-◌}
 use Rattle.layout.proofs.Laws.{one_more}
 use borrow.Author.Rules.{rules}
 use lib.ListN.{length}

@@ -1,5 +1,5 @@
 -- The invariant: the words of the first parts stand. The measure is how many parts are left.
-use Prim.Native.Nat.{◌-◌, ◌+◌, ◌*◌}
+use Prim.Native.Nat.{◌+◌, ◌*◌}
 use Rattle.layout.proofs.Laws.{row_more, same-long}
 use Rattle.layout.specs.Layout.{rows}
 use mathlib.Core.Path.{◌≡◌, refl, ◌∙◌}

@@ -1,5 +1,4 @@
 -- The invariant: ok says the test of the first parts passed. The measure is how many are left.
-use Prim.Native.Nat.{◌-◌}
 use Rattle.notation.specs.Upto.{all_to}
 use borrow.Author.Rules.{rules}
 use mathlib.Core.Path.{◌≡◌}

@@ -1,4 +1,3 @@
-use lib.ListN.{length-map}
 use Rattle.machine.proofs.Laws.{set_past}
 use Rattle.machine.proofs.Gate.seat.Goals as goal
 

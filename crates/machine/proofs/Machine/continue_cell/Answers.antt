@@ -1,4 +1,3 @@
-use lib.ListN.{length-map}
 use Rattle.machine.specs.Gate.{continue, leave}
 use Rattle.machine.proofs.Parts.{continued}
 use Rattle.machine.proofs.Machine.continue_cell.Goals as goal

@@ -1,4 +1,3 @@
-use lib.ListN.{length-map}
 use Rattle.machine.specs.Classes.{set_running}
 use Rattle.machine.specs.Gate.{delay}
 use Rattle.machine.proofs.Parts.{delayed}

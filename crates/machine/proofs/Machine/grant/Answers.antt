@@ -1,5 +1,4 @@
 use mathlib.Core.Path.{◌≡◌, ◌∙◌}
-use lib.ListN.{length-map}
 use Rattle.machine.specs.State.{proc, with_process}
 use Rattle.machine.specs.Gate.{grant, entered}
 use Rattle.machine.proofs.Laws.{set_past}
@@ -11,9 +10,10 @@ use Rattle.machine.proofs.Machine.grant.Goals.{Joined-h-lt-PROCESSES, then-h-lt-
 now : (c : Joined-h-lt-PROCESSES) → c.if-h-lt-PROCESSES.self ≡ with_process c.args.self c.args.h (entered (proc c.args.self c.args.h) c.args.g)
 unfolding with_process
 now c =
-    elim c.if-h-lt-PROCESSES.branch
-    [ then-h-lt-PROCESSES w ↦ w.self-is ∙ rw w.entered-more.ensures
-    | else-h-lt-PROCESSES w ↦ w.self-is ∙ nobody_becomes c.args.self _ _ c.well_formed.0.1.1.0.1.0.1 w.if-h-lt-PROCESSES.false ]
+    elim c.if-h-lt-PROCESSES.branch [
+      | then-h-lt-PROCESSES w ↦ w.self-is ∙ rw w.entered-more.ensures
+      | else-h-lt-PROCESSES w ↦ w.self-is ∙ nobody_becomes c.args.self _ _ c.well_formed.0.1.1.0.1.0.1 w.if-h-lt-PROCESSES.false
+    ]
 
 pub returns-then-g-lt-GATES : goal.returns-then-g-lt-GATES
 unfolding grant with_process

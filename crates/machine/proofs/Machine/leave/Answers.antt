@@ -1,4 +1,3 @@
-use lib.ListN.{length-map}
 use Rattle.machine.specs.Gate.{leave}
 use Rattle.machine.proofs.Parts.{given_up}
 use Rattle.machine.proofs.Machine.leave.Goals as goal

@@ -2,7 +2,6 @@ use mathlib.Core.Path.{◌∙◌, ap, refl}
 use mathlib.Core.Bool.{◌&&◌, not, and-false}
 use lib.Dec.{leb}
 use native.Mathlib.Omega.{arith}
-use lib.ListN.{length-map}
 use lib.Seq.{get_or-set_same}
 use borrow.Author.Tests.{le-leb, lt-leb}
 use Rattle.machine.specs.declared.Process.{Process}

@@ -29,14 +29,14 @@ unfolding one_woken
 loop-i-preserved c =
     -- the class of who stands first
     let class_now : c.if-h-lt-PROCESSES.class ≡ (get_or c.args.processes (first c.loop-i.waiters) no_process).class =
-    elim c.if-h-lt-PROCESSES.branch
-    [ then-h-lt-PROCESSES w ↦ w.class-is
-    | else-h-lt-PROCESSES w ↦ w.class-is ∙ read_past (λ (p : Process). p.class) c.args.processes 10 _ c.well_formed.0.1.0.1 w.if-h-lt-PROCESSES.false no_process ]
-    in
-    (
-  omega arith,
-  c.loop-i.invariant.1 ∙ woken-next _ _ _ _ c.loop-i-test.true ∙ rw (c.joined-more.ensures, class_now, c.rest-waiters.ensures),
-)
+    elim c.if-h-lt-PROCESSES.branch [
+      | then-h-lt-PROCESSES w ↦ w.class-is
+      | else-h-lt-PROCESSES w ↦ w.class-is ∙ read_past (λ (p : Process). p.class) c.args.processes 10 _ c.well_formed.0.1.0.1 w.if-h-lt-PROCESSES.false no_process
+    ]
+    in (
+      omega arith,
+      c.loop-i.invariant.1 ∙ woken-next _ _ _ _ c.loop-i-test.true ∙ rw (c.joined-more.ensures, class_now, c.rest-waiters.ensures),
+    )
 
 pub returns : goal.returns
 returns c =

@@ -1,5 +1,4 @@
 use mathlib.Core.Path.{◌≡◌, ◌∙◌}
-use mathlib.Core.Bool.{true}
 use lib.Dec.{leb}
 use Rattle.machine.specs.Classes.{best, joined, push, set_running, wake}
 use Rattle.machine.specs.Clock.{yields}

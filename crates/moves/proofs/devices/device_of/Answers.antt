@@ -1,4 +1,3 @@
-use lib.ListN.{length-map}
 use Rattle.machine.proofs.Laws.{get-past}
 use Rattle.moves.proofs.devices.device_of.Goals as goal
 

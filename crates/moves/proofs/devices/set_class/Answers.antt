@@ -1,4 +1,3 @@
-use lib.ListN.{length-map}
 use borrow.Author.Rules.{rules}
 use Rattle.machine.specs.State.{with_process}
 use Rattle.machine.specs.Classes.{set_class}

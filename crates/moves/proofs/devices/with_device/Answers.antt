@@ -1,4 +1,3 @@
-use lib.ListN.{length-map}
 use borrow.Author.Rules.{rules}
 use Rattle.machine.specs.Device.{with_device}
 use Rattle.machine.proofs.Laws.{set_past}

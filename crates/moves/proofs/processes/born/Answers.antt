@@ -1,4 +1,3 @@
-use lib.ListN.{length-map}
 use borrow.Author.Tests.{le-ltb, lt-ltb}
 use Rattle.machine.specs.Call.{born}
 use Rattle.machine.proofs.Laws.{set_past}

@@ -1,4 +1,3 @@
-use lib.ListN.{length-map}
 use Rattle.machine.specs.Classes.{push, set_running, wake}
 use Rattle.machine.specs.Call.{create_process}
 use Rattle.machine.proofs.Parts.{placed_first}

@@ -1,4 +1,3 @@
-use lib.ListN.{length-map}
 use borrow.Author.Tests.{eq-eqb, ne_eqb}
 use Rattle.machine.specs.State.{with_process}
 use Rattle.machine.specs.Call.{stop_job}

@@ -1,6 +1,5 @@
 -- The invariant: the words passed are zero, and the others are as they were. The measure is how many are left.
 use mathlib.Core.Path.{◌≡◌, refl, sym}
-use Prim.Native.Nat.{◌-◌}
 use native.Mathlib.Omega.{arith}
 use lib.ListN.{length, length-set}
 use Rattle.notation.proofs.Upto.{laid_none, laid_more}

@@ -42,16 +42,18 @@ overflow_add-count c =
 -- the class of who runs after the move
 class_now : (c : Joined-j-lt-NOBODY) → c.if-j-lt-NOBODY.class ≡ if (ltb c.perform-m.result.running 10) (proc c.perform-m.result c.perform-m.result.running).class 3
 class_now c =
-    elim c.if-j-lt-NOBODY.branch
-    [ then-j-lt-NOBODY w ↦ w.class-is ∙ rw (lt-ltb _ _ w.if-j-lt-NOBODY.true)
-    | else-j-lt-NOBODY w ↦ w.class-is ∙ rw (le-ltb _ _ w.if-j-lt-NOBODY.false) ]
+    elim c.if-j-lt-NOBODY.branch [
+      | then-j-lt-NOBODY w ↦ w.class-is ∙ rw (lt-ltb _ _ w.if-j-lt-NOBODY.true)
+      | else-j-lt-NOBODY w ↦ w.class-is ∙ rw (le-ltb _ _ w.if-j-lt-NOBODY.false)
+    ]
 
 -- the selection is made where it changes the machine
 machine_now : (c : Joined-displaced) → c.if-displaced.m ≡ if c.displaces-displaced.result (select c.perform-m.result) c.perform-m.result
 machine_now c =
-    elim c.if-displaced.branch
-    [ then-displaced w ↦ w.m-is ∙ rw w.if-displaced.true w.select-m.ensures
-    | else-displaced w ↦ w.m-is ∙ rw w.if-displaced.false ]
+    elim c.if-displaced.branch [
+      | then-displaced w ↦ w.m-is ∙ rw w.if-displaced.true w.select-m.ensures
+      | else-displaced w ↦ w.m-is ∙ rw w.if-displaced.false
+    ]
 
 pub shape_of-common-then-not-on : goal.shape_of-common-then-not-on
 shape_of-common-then-not-on c =

@@ -1,6 +1,5 @@
 -- The invariant: each count has grown by how often its gate stands among the held passed. The measure is how many are left.
 use mathlib.Core.Path.{◌≡◌}
-use Prim.Native.Nat.{◌-◌}
 use native.Mathlib.Omega.{arith}
 use native.Mathlib.Numerals.{add-one}
 use Rattle.notation.specs.Upto.{sum_to}

@@ -1,6 +1,5 @@
 -- The invariant: each count is how often its process is at the gates passed. The measure is how many are left.
 use mathlib.Core.Path.{◌≡◌, refl}
-use Prim.Native.Nat.{◌-◌}
 use native.Mathlib.Omega.{arith}
 use native.Mathlib.Numerals.{add-one}
 use lib.ListN.{get_or}
