@@ -7,7 +7,7 @@ use native.Mathlib.Omega.{arith}
 use lib.Dec.{ltb, leb}
 use lib.ListN.{length, get_or, set, take, drop, replicate, length-append, length-replicate, replicate-append-replicate, take-append-drop}
 use lib.Seq.{length-take-le, drop-cons, set_at}
-use borrow.Author.Tests.{ltb-true, lt-ltb, le-ltb, le-leb, lt-leb}
+use borrow.Author.Tests.{ltb-true, le-leb, lt-leb}
 use Rattle.notation.specs.If.{if}
 use Rattle.notation.proofs.Upto.{below?}
 use Rattle.word.specs.declared.Answer.{Answer}
@@ -15,7 +15,6 @@ use Rattle.word.specs.declared.Answer.TheVariants.{Word}
 use Rattle.word.specs.Word.{Reckoned, fault, said, index_w, range_w, case_w}
 use Rattle.word.specs.Whole.{biased}
 use Rattle.word.proofs.Words.{before_cases, past_cases, among_cases}
-use Rattle.machine.specs.declared.Regs.{Regs}
 use Rattle.machine.specs.Store.{Place, in_common, in_own, nowhere, place_of}
 use Rattle.machine.specs.View.{View, next, Effect, effect, n, arg, past, local, top, under, marks, faulted, to_target, replaces, stays, in_region, located, fetched, stores, cleared}
 use Rattle.machine.specs.Instruction.{pushind, copyword, index, range, to_case, casejump, enter, exit, in_job, callprog}
@@ -25,20 +24,6 @@ use Rattle.engine.specs.declared.place.Place.{Place as Found}
 use Rattle.engine.specs.declared.place.Place.TheVariants.{Common, Own}
 
 -- ---- addresses
--- the place that an address names depends on the floor and the registers alone: outside a job any may be named, in a job those from L on below C + p
-module _ (floor : ℕ) (r : Regs) (a : ℕ) where
-  pub located_outside : r.in_job ≡ false → located (seen [] floor false r [] []) a ≡ place_of a
-  unfolding located
-  located_outside e = rw e
-
-  pub located_inside : r.in_job ≡ true → floor ≤ a → a < r.c + r.p → located (seen [] floor false r [] []) a ≡ place_of a
-  unfolding located
-  located_inside e f g = rw (e, le-leb floor a f, lt-ltb a (r.c + r.p) g)
-
-  pub located-above : r.in_job ≡ true → floor ≤ a → r.c + r.p ≤ a → nowhere ≡ located (seen [] floor false r [] []) a
-  unfolding located
-  located-above e f g = rw (e, le-leb floor a f, le-ltb a (r.c + r.p) g)
-
 -- a place lies within its store of 2,048 words
 abbrev Within : Place → Type 0
 Within (in_common k) = k < 2048

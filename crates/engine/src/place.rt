@@ -19,6 +19,7 @@ pub(crate) enum Place {
 }
 
 // In a job only L to C + p - 1 may be named.
+#[tactic(auto, using(machine::proofs::Laws::cases), unfolding(machine::specs::View::located))]
 pub(crate) fn locate(floor: u16, r: Regs, a: u16) -> Place
     ensures { found result ≡ located (seen [] floor false r [] []) a }
 {
