@@ -20,26 +20,6 @@ returns-then-not-known c =
     let one = c.is_whole-one in
     handed_idle a.m a.common.now a.private.now a.d (not-false _ fits.false-raw) _ one.ensures (not-true _ c.if-not-known.true-raw)
 
--- SETTLED? slice-bounds-result-end-3
--- part-result-end-3 : tie.Need-slice-bounds-result-end-3
--- part-result-end-3 c =
---     let a = c.before.before.before.before.before.before.before.before.before.args in
---     let fits = c.before.before.before.before.before.before.if1 in
---     let one = c.before.before.before.before.is_whole in
---     let busy = c.before.before.if2 in
---     let k = known (device a.m a.d) _ one.ensures (not-false _ busy.false-raw) in
---     omega (arith, c.before.wide.ensures.0, whole-low (device a.m a.d).address k.one (rw c.before.wide.ensures.0 at c.if3.true), (fit a.common.now a.private.now a.d (not-false _ fits.false-raw)).common)
-
--- SETTLED? slice-bounds-result-end-4
--- part-result-end-4 : tie.Need-slice-bounds-result-end-4
--- part-result-end-4 c =
---     let a = c.before.before.before.before.before.before.before.before.before.before.args in
---     let fits = c.before.before.before.before.before.before.before.if1 in
---     let one = c.before.before.before.before.before.is_whole in
---     let busy = c.before.before.before.if2 in
---     let k = known (device a.m a.d) _ one.ensures (not-false _ busy.false-raw) in
---     omega (arith, c.own.ensures, whole-high (device a.m a.d).address k.one, k.busy, (fit a.common.now a.private.now a.d (not-false _ fits.false-raw)).private)
-
 pub returns-then-a-lt-COMMON : goal.returns-then-a-lt-COMMON
 returns-then-a-lt-COMMON c =
     let a = c.args in
