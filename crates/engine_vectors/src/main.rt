@@ -4,8 +4,8 @@
 ghost use Rattle.std.specs.Prelude.{◌<◌};
 
 use engine::End;
-use libc::STDOUT_FILENO;
 use machine::Regs;
+use std::io;
 
 // The cases, 29 numbers each: the code's length and its 8 words; address, line, S, B, C, whether in a job, saved S, saved B,
 // saved address, p, reason; L, whether a gate is held; five words from S on; an address and the word there (65535: none).
@@ -253,13 +253,12 @@ const CASES: [u16; 6902] = [
     1, 13, 0, 0, 0, 0, 0, 0, 0, 0, 0, 4094, 4096, 4096, 0, 0, 0, 0, 0, 0, 2060, 0, 1, 32768, 0, 0, 0, 65535, 0,
 ];
 
-fn say(text: &[u8]) {
-    io::write_all(STDOUT_FILENO, text);
+fn say(rt: &impl Print, text: &str) -> io::Result<()> {
+    print!(rt; "{text}")
 }
 
-fn say_number(n: u16) {
-    say(b" ");
-    io::print_decimal(STDOUT_FILENO, n as u64);
+fn say_number(rt: &impl Print, n: u16) -> io::Result<()> {
+    print!(rt; " {n}")
 }
 
 fn wide(x: u16) -> usize
@@ -341,65 +340,70 @@ fn common_of(case: u16) -> [u16; 2048] {
     common
 }
 
-fn say_end(end: End) {
+fn say_end(rt: &impl Print, end: End) -> io::Result<()> {
     match end {
-        End::Budget => say(b"went on"),
-        End::Job => say(b"job ended"),
-        End::Unfit => say(b"unfit"),
+        End::Budget => say(rt, "went on"),
+        End::Job => say(rt, "job ended"),
+        End::Unfit => say(rt, "unfit"),
         End::Fault(f) => {
-            say(b"fault");
-            say_number(f);
+            say(rt, "fault")?;
+            say_number(rt, f)
         }
         End::Call(k) => {
-            say(b"call");
-            say_number(k);
+            say(rt, "call")?;
+            say_number(rt, k)
         }
     }
 }
 
-fn say_registers(r: Regs) {
-    say(b";");
-    say_number(r.address);
-    say_number(r.line);
-    say_number(r.s);
-    say_number(r.b);
-    say_number(r.c);
-    say_number(r.in_job as u16);
-    say_number(r.saved_s);
-    say_number(r.saved_b);
-    say_number(r.saved_address);
-    say_number(r.p);
-    say_number(r.reason);
-    say(b";");
+fn say_registers(rt: &impl Print, r: Regs) -> io::Result<()> {
+    say(rt, ";")?;
+    say_number(rt, r.address)?;
+    say_number(rt, r.line)?;
+    say_number(rt, r.s)?;
+    say_number(rt, r.b)?;
+    say_number(rt, r.c)?;
+    say_number(rt, r.in_job as u16)?;
+    say_number(rt, r.saved_s)?;
+    say_number(rt, r.saved_b)?;
+    say_number(rt, r.saved_address)?;
+    say_number(rt, r.p)?;
+    say_number(rt, r.reason)?;
+    say(rt, ";")
 }
 
-fn say_change(from: u16, k: u16, w: u16) {
+fn say_change(rt: &impl Print, from: u16, k: u16, w: u16) -> io::Result<()> {
     if from < 4096 {
         if k < 2048 {
-            say_number(from + k);
+            say_number(rt, from + k)?;
         }
     }
-    say(b":");
-    io::print_decimal(STDOUT_FILENO, w as u64);
+    print!(rt; ":{w}")
 }
 
 // Each word that has changed, with its address.
-fn say_changes(before: &[u16; 2048], after: &[u16; 2048], from: u16) {
+fn say_changes(
+    rt: &impl Print,
+    before: &[u16; 2048],
+    after: &[u16; 2048],
+    from: u16,
+) -> io::Result<()> {
     for k in 0..2048u16 {
         let i = wide(k);
         if i < 2048 {
             if before[i] != after[i] {
-                say_change(from, k, after[i]);
+                say_change(rt, from, k, after[i])?;
             }
         }
     }
+    Ok(())
 }
 
-fn run_case(case: u16) {
+fn run_case(rt: &impl Print, case: u16) -> io::Result<()> {
     let code = code_of(case);
     let n = wide(field(case, 0));
     if 8 < n {
-        return;
+        return Ok(());
     }
     let common = common_of(case);
     let own = own_of(case);
@@ -417,17 +421,18 @@ fn run_case(case: u16) {
     );
     let end = x.end;
     let regs = x.regs;
-    say_end(end);
-    say(b" ");
-    io::print_decimal(STDOUT_FILENO, x.count as u64);
-    say_registers(regs);
-    say_changes(&common, &common_after, 0);
-    say_changes(&own, &own_after, 2048);
-    say(b"\n");
+    say_end(rt, end)?;
+    let count = x.count;
+    print!(rt; " {count}")?;
+    say_registers(rt, regs)?;
+    say_changes(rt, &common, &common_after, 0)?;
+    say_changes(rt, &own, &own_after, 2048)?;
+    say(rt, "\n")
 }
 
-fn main() {
+fn main(rt: HostRuntime) -> io::Result<()> {
     for case in 0..238u16 {
-        run_case(case);
+        run_case(&rt, case)?;
     }
+    Ok(())
 }

@@ -2,7 +2,7 @@
 #![tactic(auto)]
 
 use image::{Header, Reading, Refusal, Writing};
-use libc::STDOUT_FILENO;
+use std::io;
 
 // The cases of reading, 12 numbers each: bytes, room, then five words of the image that are
 // changed, as place and value; place 65535 is none.
@@ -63,29 +63,29 @@ const WRITES: [u16; 78] = [
     1, 2, 64, 0, 1, 0,
 ];
 
-fn say(text: &[u8]) {
-    io::write_all(STDOUT_FILENO, text);
+fn say(rt: &impl Print, text: &str) -> io::Result<()> {
+    print!(rt; "{text}")
 }
 
-fn say_number(n: u64) {
-    say(b" ");
-    io::print_decimal(STDOUT_FILENO, n);
+fn say_number(rt: &impl Print, n: u64) -> io::Result<()> {
+    print!(rt; " {n}")
 }
 
-fn say_word(w: u16) {
-    say_number(w as u64);
+fn say_word(rt: &impl Print, w: u16) -> io::Result<()> {
+    say_number(rt, w as u64)
 }
 
-fn say_byte(b: u8) {
-    io::print_hex(STDOUT_FILENO, b as u64, 2);
+fn say_byte(rt: &impl Print, b: u8) -> io::Result<()> {
+    print!(rt; "{b:02x}")
 }
 
-fn say_refusal(r: Refusal) {
-    say(b" refused");
-    say_number(image::number(r) as u64);
+fn say_refusal(rt: &impl Print, r: Refusal) -> io::Result<()> {
+    say(rt, " refused")?;
+    say_number(rt, image::number(r) as u64)?;
     if let Refusal::Block(b) = r {
-        say_number(b as u64);
+        say_number(rt, b as u64)?;
     }
+    Ok(())
 }
 
 fn wide(x: u16) -> usize {
@@ -131,56 +131,56 @@ fn changed(case: u8) -> [u8; 1536] {
     bytes
 }
 
-fn say_code(code: &[u16; 4]) {
-    say(b"; code");
+fn say_code(rt: &impl Print, code: &[u16; 4]) -> io::Result<()> {
+    say(rt, "; code")?;
     for k in 0..code.len() {
-        say_word(code[k]);
+        say_word(rt, code[k])?;
     }
-    say(b"\n");
+    say(rt, "\n")
 }
 
-fn read_case(case: u8) {
+fn read_case(rt: &impl Print, case: u8) -> io::Result<()> {
     let at = WIDTH * (case as usize);
     if READS.len() < at + 2 {
-        return;
+        return Ok(());
     }
     let len = wide(READS[at]);
     let room = wide(READS[at + 1]);
     let bytes = changed(case);
     let mut code = [7u16; 4];
     if 1536 < len {
-        return;
+        return Ok(());
     }
     if 4 < room {
-        return;
+        return Ok(());
     }
-    say(b"read");
-    say_reading(image::read(&bytes[..len], &mut code[..room]));
-    say_code(&code);
+    say(rt, "read")?;
+    say_reading(rt, image::read(&bytes[..len], &mut code[..room]))?;
+    say_code(rt, &code)
 }
 
-fn say_reading(answer: Reading) {
+fn say_reading(rt: &impl Print, answer: Reading) -> io::Result<()> {
     match answer {
-        Reading::Accepted(h) => say_header(h),
-        Reading::Refused(r) => say_refusal(r),
+        Reading::Accepted(h) => say_header(rt, h),
+        Reading::Refused(r) => say_refusal(rt, r),
     }
 }
 
-fn say_header(h: Header) {
-    say(b" accepted");
-    say_word(h.edition);
-    say_word(h.length);
-    say_word(h.devices);
-    say_word(h.variables);
+fn say_header(rt: &impl Print, h: Header) -> io::Result<()> {
+    say(rt, " accepted")?;
+    say_word(rt, h.edition)?;
+    say_word(rt, h.length)?;
+    say_word(rt, h.devices)?;
+    say_word(rt, h.variables)
 }
 
-fn say_writing(answer: Writing) {
+fn say_writing(rt: &impl Print, answer: Writing) -> io::Result<()> {
     match answer {
         Writing::Written(n) => {
-            say(b" written");
-            say_number(n as u64);
+            say(rt, " written")?;
+            say_number(rt, n as u64)
         }
-        Writing::Refused(r) => say_refusal(r),
+        Writing::Refused(r) => say_refusal(rt, r),
     }
 }
 
@@ -204,19 +204,20 @@ fn is_untouched(out: &[u8; 1568]) -> bool {
 }
 
 // 32 bytes to a line.
-fn say_bytes(out: &[u8; 1568]) {
+fn say_bytes(rt: &impl Print, out: &[u8; 1568]) -> io::Result<()> {
     for k in 0..out.len() {
-        say_byte(out[k]);
+        say_byte(rt, out[k])?;
         if k % 32 == 31 {
-            say(b"\n");
+            say(rt, "\n")?;
         }
     }
+    Ok(())
 }
 
-fn write_case(case: u8) {
+fn write_case(rt: &impl Print, case: u8) -> io::Result<()> {
     let at = 6 * (case as usize);
     if WRITES.len() < at + 6 {
-        return;
+        return Ok(());
     }
     let header = Header {
         edition: WRITES[at],
@@ -227,40 +228,42 @@ fn write_case(case: u8) {
     let words = wide(WRITES[at + 4]);
     let room = wide(WRITES[at + 5]);
     if 256 < words {
-        return;
+        return Ok(());
     }
     if 1568 < room {
-        return;
+        return Ok(());
     }
     let code = program();
     let mut out = [170u8; 1568];
-    say(b"write");
-    say_writing(image::write(header, &code[..words], &mut out[..room]));
-    say(b"\n");
-    say_out(&out);
+    say(rt, "write")?;
+    say_writing(rt, image::write(header, &code[..words], &mut out[..room]))?;
+    say(rt, "\n")?;
+    say_out(rt, &out)
 }
 
-fn say_out(out: &[u8; 1568]) {
+fn say_out(rt: &impl Print, out: &[u8; 1568]) -> io::Result<()> {
     if is_untouched(out) {
-        say(b"untouched\n");
+        say(rt, "untouched\n")
     } else {
-        say_bytes(out);
+        say_bytes(rt, out)
     }
 }
 
-fn read_cases() {
+fn read_cases(rt: &impl Print) -> io::Result<()> {
     for case in 0..33u8 {
-        read_case(case);
+        read_case(rt, case)?;
     }
+    Ok(())
 }
 
-fn write_cases() {
+fn write_cases(rt: &impl Print) -> io::Result<()> {
     for case in 0..13u8 {
-        write_case(case);
+        write_case(rt, case)?;
     }
+    Ok(())
 }
 
-fn main() {
-    read_cases();
-    write_cases();
+fn main(rt: HostRuntime) -> io::Result<()> {
+    read_cases(&rt)?;
+    write_cases(&rt)
 }

@@ -5,8 +5,8 @@ ghost use Rattle.std.specs.Prelude.{◌<◌};
 
 use image::Header;
 use kernel::{Act, Caller, Decision};
-use libc::STDOUT_FILENO;
 use machine::{Machine, Process, Queue, Regs};
+use std::io;
 
 // The operations, 8 numbers each, the first of them what is done; process, address and so on are numbers q, a.
 // 0 a fresh machine: devices, V, n. 1 the running process's stack gets j words (w1 first; below the last five, what is there),
@@ -833,23 +833,23 @@ const ROWS: [u16; 6184] = [
     0, 0, 0, 16257, 0, 0, 0, 0,
 ];
 
-fn say(text: &[u8]) {
-    io::write_all(STDOUT_FILENO, text);
+fn say(rt: &impl Print, text: &str) -> io::Result<()> {
+    print!(rt; "{text}")
 }
 
-fn say_number(n: u16) {
-    io::print_decimal(STDOUT_FILENO, n as u64);
+fn say_number(rt: &impl Print, n: u16) -> io::Result<()> {
+    print!(rt; "{n}")
 }
 
 // A number after a mark.
-fn say_marked(mark: &[u8], n: u16) {
-    say(mark);
-    say_number(n);
+fn say_marked(rt: &impl Print, mark: &str, n: u16) -> io::Result<()> {
+    say(rt, mark)?;
+    say_number(rt, n)
 }
 
-fn say_small(mark: &[u8], n: u8) {
-    say(mark);
-    io::print_decimal(STDOUT_FILENO, n as u64);
+fn say_small(rt: &impl Print, mark: &str, n: u8) -> io::Result<()> {
+    say(rt, mark)?;
+    print!(rt; "{n}")
 }
 
 fn wide(x: u16) -> usize
@@ -930,31 +930,34 @@ fn after(a: u16, k: u16) -> u16 {
     4096
 }
 
-fn say_record(words: &[u16]) {
+fn say_record(rt: &impl Print, words: &[u16]) -> io::Result<()> {
     if words.len() == 4 {
-        say_marked(b" ", words[0]);
-        say_marked(b" ", words[1]);
-        say_marked(b" ", words[2]);
-        say_marked(b" ", words[3]);
+        say_marked(rt, " ", words[0])?;
+        say_marked(rt, " ", words[1])?;
+        say_marked(rt, " ", words[2])?;
+        say_marked(rt, " ", words[3])?;
     }
+    Ok(())
 }
 
-fn say_queue(mark: &[u8], q: Queue) {
+fn say_queue(rt: &impl Print, mark: &str, q: Queue) -> io::Result<()> {
     for i in 0..10 {
         if i < q.len {
-            say_small(mark, q.at[i as usize]);
+            say_small(rt, mark, q.at[i as usize])?;
         }
     }
+    Ok(())
 }
 
-fn say_cells(cells: [u8; 8]) {
+fn say_cells(rt: &impl Print, cells: [u8; 8]) -> io::Result<()> {
     for c in 0..8 {
         let q = cells[c as usize];
         if q < 10 {
-            say_small(b"@", c);
-            say_small(b".", q);
+            say_small(rt, "@", c)?;
+            say_small(rt, ".", q)?;
         }
     }
+    Ok(())
 }
 
 fn has_filled(cells: [u8; 8]) -> bool {
@@ -968,9 +971,9 @@ fn has_filled(cells: [u8; 8]) -> bool {
 }
 
 // A gate that is shut, or has somebody waiting or delayed.
-fn say_gate(m: Machine, g: u8) {
+fn say_gate(rt: &impl Print, m: Machine, g: u8) -> io::Result<()> {
     if 25 <= g {
-        return;
+        return Ok(());
     }
     let w = m.gates[g as usize];
     let cells = w.cells;
@@ -978,135 +981,154 @@ fn say_gate(m: Machine, g: u8) {
     let filled = has_filled(cells);
     let used = (w.holder < 10) | (0 < queue.len) | filled;
     if used {
-        say_small(b" ", g);
+        say_small(rt, " ", g)?;
         if w.holder < 10 {
-            say_small(b"/", w.holder);
+            say_small(rt, "/", w.holder)?;
         } else {
-            say(b"/-");
+            say(rt, "/-")?;
         }
-        say_queue(b"<", queue);
-        say_cells(cells);
+        say_queue(rt, "<", queue)?;
+        say_cells(rt, cells)?;
     }
+    Ok(())
 }
 
-fn say_gates(m: Machine) {
-    say_small(b"; gates ", m.made);
+fn say_gates(rt: &impl Print, m: Machine) -> io::Result<()> {
+    say_small(rt, "; gates ", m.made)?;
     for g in 0..25 {
-        say_gate(m, g);
+        say_gate(rt, m, g)?;
     }
+    Ok(())
 }
 
-fn say_device(m: Machine, d: u8) {
+fn say_device(rt: &impl Print, m: Machine, d: u8) -> io::Result<()> {
     if d < 5 {
         let x = m.devices[d as usize];
         if x.process < 10 {
-            say_small(b" ", d);
-            say_small(b"/", x.process);
-            say_small(b".", x.operation);
-            say_marked(b".", x.address);
+            say_small(rt, " ", d)?;
+            say_small(rt, "/", x.process)?;
+            say_small(rt, ".", x.operation)?;
+            say_marked(rt, ".", x.address)?;
         }
     }
+    Ok(())
 }
 
-fn say_devices(m: Machine) {
-    say(b"; busy");
+fn say_devices(rt: &impl Print, m: Machine) -> io::Result<()> {
+    say(rt, "; busy")?;
     for d in 0..5 {
-        say_device(m, d);
+        say_device(rt, m, d)?;
     }
+    Ok(())
 }
 
-fn say_held(p: Process) {
+fn say_held(rt: &impl Print, p: Process) -> io::Result<()> {
     for i in 0..8 {
         if i < p.holds {
-            say_small(b"+", p.held[i as usize]);
+            say_small(rt, "+", p.held[i as usize])?;
         }
     }
+    Ok(())
 }
 
-fn say_process(m: Machine, q: u8) {
+fn say_process(rt: &impl Print, m: Machine, q: u8) -> io::Result<()> {
     let p = process_of(m, q);
     let r = p.regs;
-    say_small(b" ", q);
-    say_small(b"=", p.class);
-    say_marked(b",", r.address);
-    say_marked(b",", r.s);
-    say_marked(b",", r.b);
-    say_marked(b",", p.variables);
-    say_small(b",", p.slice);
-    say_held(p);
+    say_small(rt, " ", q)?;
+    say_small(rt, "=", p.class)?;
+    say_marked(rt, ",", r.address)?;
+    say_marked(rt, ",", r.s)?;
+    say_marked(rt, ",", r.b)?;
+    say_marked(rt, ",", p.variables)?;
+    say_small(rt, ",", p.slice)?;
+    say_held(rt, p)?;
     if p.ended {
-        say(b"!");
+        say(rt, "!")?;
     }
     if r.in_job {
-        say_marked(b"~", r.reason);
+        say_marked(rt, "~", r.reason)?;
     }
+    Ok(())
 }
 
-fn say_processes(m: Machine) {
+fn say_processes(rt: &impl Print, m: Machine) -> io::Result<()> {
     for q in 0..10 {
         if q < m.created {
-            say_process(m, q);
+            say_process(rt, m, q)?;
         }
     }
+    Ok(())
 }
 
 // Who runs, and the word on top of its stack.
-fn say_running(m: Machine, common: &[u16; 2048], private: &[u16; 20480]) {
+fn say_running(
+    rt: &impl Print,
+    m: Machine,
+    common: &[u16; 2048],
+    private: &[u16; 20480],
+) -> io::Result<()> {
     let q = m.running;
     if q < 10 {
-        say_small(b": runs ", q);
+        say_small(rt, ": runs ", q)?;
         let p = process_of(m, q);
         let s = p.regs.s;
         if s < 4096 {
-            say_marked(b" top ", peek(q, s, common, private));
+            say_marked(rt, " top ", peek(q, s, common, private))?;
         }
     } else {
-        say(b": idle");
+        say(rt, ": idle")?;
     }
+    Ok(())
 }
 
-fn say_queues(m: Machine) {
+fn say_queues(rt: &impl Print, m: Machine) -> io::Result<()> {
     let ready = m.ready;
     let first = ready[0];
     let second = ready[1];
     let third = ready[2];
     let clock = m.clock;
     let bell = m.bell;
-    say(b"; ready");
-    say_queue(b" ", first);
-    say(b" |");
-    say_queue(b" ", second);
-    say(b" |");
-    say_queue(b" ", third);
-    say(b"; clock");
-    say_queue(b" ", clock);
-    say(b"; bell");
-    say_queue(b" ", bell);
+    say(rt, "; ready")?;
+    say_queue(rt, " ", first)?;
+    say(rt, " |")?;
+    say_queue(rt, " ", second)?;
+    say(rt, " |")?;
+    say_queue(rt, " ", third)?;
+    say(rt, "; clock")?;
+    say_queue(rt, " ", clock)?;
+    say(rt, "; bell")?;
+    say_queue(rt, " ", bell)
 }
 
 // The count of the selections, and whether the running process is marked.
-fn say_count(m: Machine) {
-    say_small(b"; count ", m.count);
+fn say_count(rt: &impl Print, m: Machine) -> io::Result<()> {
+    say_small(rt, "; count ", m.count)?;
     if m.mark {
-        say(b" marked");
+        say(rt, " marked")?;
     }
+    Ok(())
 }
 
-fn say_state(m: Machine, common: &[u16; 2048], private: &[u16; 20480]) {
-    say_running(m, common, private);
-    say_queues(m);
-    say_gates(m);
-    say_devices(m);
-    say_marked(b"; time ", m.seconds);
-    say_marked(b" ", m.fraction);
-    say_count(m);
-    say(b";");
-    say_processes(m);
+fn say_state(
+    rt: &impl Print,
+    m: Machine,
+    common: &[u16; 2048],
+    private: &[u16; 20480],
+) -> io::Result<()> {
+    say_running(rt, m, common, private)?;
+    say_queues(rt, m)?;
+    say_gates(rt, m)?;
+    say_devices(rt, m)?;
+    say_marked(rt, "; time ", m.seconds)?;
+    say_marked(rt, " ", m.fraction)?;
+    say_count(rt, m)?;
+    say(rt, ";")?;
+    say_processes(rt, m)?;
     let sound = sound::is_sound(m);
     if sound {
-        say(b"; sound\n");
+        say(rt, "; sound\n")
     } else {
-        say(b"; unsound\n");
+        say(rt, "; unsound\n")
     }
 }
 
@@ -1155,10 +1177,16 @@ fn push_words(row: u16, q: u8, s: u16, common: &mut [u16; 2048], private: &mut [
     }
 }
 
-fn say_start<'a>(m: Machine, d: u8, common: &'a [u16; 2048], private: &'a [u16; 20480]) {
-    say_small(b"starts ", d);
-    say(b" record");
-    say_record(kernel::record(m, d, common, private));
+fn say_start<'a>(
+    rt: &impl Print,
+    m: Machine,
+    d: u8,
+    common: &'a [u16; 2048],
+    private: &'a [u16; 20480],
+) -> io::Result<()> {
+    say_small(rt, "starts ", d)?;
+    say(rt, " record")?;
+    say_record(rt, kernel::record(m, d, common, private))
 }
 
 // A kernel call of the running process: what is decided, and the machine after the move.
@@ -1186,35 +1214,47 @@ fn moved(m: Machine, d: Decision) -> Machine {
 }
 
 // How a call has ended, and the machine after the selection, where it goes on.
-fn ended<'a>(m: Machine, act: Act, common: &'a [u16; 2048], private: &'a [u16; 20480]) -> Machine {
+fn ended<'a>(
+    rt: &impl Print,
+    m: Machine,
+    act: Act,
+    common: &'a [u16; 2048],
+    private: &'a [u16; 20480],
+) -> io::Result<Machine> {
     match act {
         Act::Unfit => {
-            say(b"unfit");
-            m
+            say(rt, "unfit")?;
+            Ok(m)
         }
         Act::Stop(f, _) => {
-            say_small(b"stops ", f);
-            m
+            say_small(rt, "stops ", f)?;
+            Ok(m)
         }
         Act::Start(d, _, _) => {
-            say_start(m, d, common, private);
-            m.select()
+            say_start(rt, m, d, common, private)?;
+            Ok(m.select())
         }
         _ => {
-            say(b"on");
-            m.select()
+            say(rt, "on")?;
+            Ok(m.select())
         }
     }
 }
 
-fn call(m: Machine, row: u16, common: &mut [u16; 2048], private: &mut [u16; 20480]) -> Machine {
+fn call(
+    rt: &impl Print,
+    m: Machine,
+    row: u16,
+    common: &mut [u16; 2048],
+    private: &mut [u16; 20480],
+) -> io::Result<Machine> {
     let ready = about_to_call(m, field(row, 2));
     let q = ready.running;
     let p = process_of(ready, q);
     push_words(row, q, p.regs.s, common, private);
     let d = decided(ready, field(row, 1), common, private);
     let act = d.act;
-    ended(moved(ready, d), act, common, private)
+    ended(rt, moved(ready, d), act, common, private)
 }
 
 fn based(m: Machine, b: u16) -> Machine {
@@ -1225,13 +1265,13 @@ fn based(m: Machine, b: u16) -> Machine {
     with_regs(m, m.running, r)
 }
 
-fn ticked(m: Machine, n: u16) -> Machine {
+fn ticked(rt: &impl Print, m: Machine, n: u16) -> io::Result<Machine> {
     let mut t = m;
     for i in 0..n {
         t = t.tick();
     }
-    say(b"tick");
-    t
+    say(rt, "tick")?;
+    Ok(t)
 }
 
 fn in_job(m: Machine, q: u8, reason: u16) -> Machine {
@@ -1265,12 +1305,19 @@ fn counted(mut m: Machine, count: u8) -> Machine {
     m
 }
 
-fn see(q: u8, a: u16, n: u16, common: &[u16; 2048], private: &[u16; 20480]) {
-    say(b"words");
+fn see(
+    rt: &impl Print,
+    q: u8,
+    a: u16,
+    n: u16,
+    common: &[u16; 2048],
+    private: &[u16; 20480],
+) -> io::Result<()> {
+    say(rt, "words")?;
     for i in 0..n {
-        say_marked(b" ", peek(q, after(a, i), common, private));
+        say_marked(rt, " ", peek(q, after(a, i), common, private))?;
     }
-    say(b"\n");
+    say(rt, "\n")
 }
 
 // A gate is made and left.
@@ -1283,13 +1330,19 @@ fn one_made(m: Machine, common: &mut [u16; 2048], private: &mut [u16; 20480]) ->
     moved(able, leave).select()
 }
 
-fn made(m: Machine, n: u16, common: &mut [u16; 2048], private: &mut [u16; 20480]) -> Machine {
+fn made(
+    rt: &impl Print,
+    m: Machine,
+    n: u16,
+    common: &mut [u16; 2048],
+    private: &mut [u16; 20480],
+) -> io::Result<Machine> {
     let mut t = m;
     for i in 0..n {
         t = one_made(t, common, private);
     }
-    say(b"made");
-    t
+    say(rt, "made")?;
+    Ok(t)
 }
 
 fn put_record(row: u16, common: &mut [u16; 2048], private: &mut [u16; 20480]) {
@@ -1302,86 +1355,116 @@ fn put_record(row: u16, common: &mut [u16; 2048], private: &mut [u16; 20480]) {
 }
 
 // What says no state.
-fn prepare(m: Machine, row: u16, common: &mut [u16; 2048], private: &mut [u16; 20480]) -> Machine {
+fn prepare(
+    rt: &impl Print,
+    m: Machine,
+    row: u16,
+    common: &mut [u16; 2048],
+    private: &mut [u16; 20480],
+) -> io::Result<Machine> {
     let q = narrow(field(row, 1));
     match field(row, 0) {
-        2 => based(m, field(row, 1)),
+        2 => Ok(based(m, field(row, 1))),
         3 => {
             poke(q, field(row, 2), field(row, 3), common, private);
-            m
+            Ok(m)
         }
         10 => {
-            see(q, field(row, 2), field(row, 3), common, private);
-            m
+            see(rt, q, field(row, 2), field(row, 3), common, private)?;
+            Ok(m)
         }
         12 => {
             put_record(row, common, private);
-            m
+            Ok(m)
         }
-        _ => m,
+        _ => Ok(m),
     }
 }
 
-fn set(m: Machine, row: u16) -> Machine {
+fn set(rt: &impl Print, m: Machine, row: u16) -> io::Result<Machine> {
     let x = field(row, 1);
     let y = field(row, 2);
-    say(b"set");
+    say(rt, "set")?;
     match field(row, 0) {
-        7 => in_job(m, narrow(x), y),
-        8 => sliced(m, narrow(x)),
-        9 => timed(m, x, y),
-        13 => counted(m, narrow(x)),
-        _ => m,
+        7 => Ok(in_job(m, narrow(x), y)),
+        8 => Ok(sliced(m, narrow(x))),
+        9 => Ok(timed(m, x, y)),
+        13 => Ok(counted(m, narrow(x))),
+        _ => Ok(m),
     }
 }
 
-fn done(m: Machine, row: u16, common: &mut [u16; 2048], private: &mut [u16; 20480]) -> Machine {
-    say(b"done");
+fn done(
+    rt: &impl Print,
+    m: Machine,
+    row: u16,
+    common: &mut [u16; 2048],
+    private: &mut [u16; 20480],
+) -> io::Result<Machine> {
+    say(rt, "done")?;
     let d = narrow(field(row, 1));
-    kernel::device_done(m, d, field(row, 2), field(row, 3), common, private)
+    Ok(kernel::device_done(m, d, field(row, 2), field(row, 3), common, private))
 }
 
-fn begun(row: u16, common: &mut [u16; 2048], private: &mut [u16; 20480]) -> Machine {
+fn begun(
+    rt: &impl Print,
+    row: u16,
+    common: &mut [u16; 2048],
+    private: &mut [u16; 20480],
+) -> io::Result<Machine> {
     clear_common(common);
     clear_private(private);
-    say(b"new");
-    fresh(row)
+    say(rt, "new")?;
+    Ok(fresh(row))
 }
 
-fn rung(m: Machine) -> Machine {
-    say(b"bell");
-    m.ring()
+fn rung(rt: &impl Print, m: Machine) -> io::Result<Machine> {
+    say(rt, "bell")?;
+    Ok(m.ring())
 }
 
 // What says the state after it.
-fn act(m: Machine, row: u16, common: &mut [u16; 2048], private: &mut [u16; 20480]) -> Machine {
+fn act(
+    rt: &impl Print,
+    m: Machine,
+    row: u16,
+    common: &mut [u16; 2048],
+    private: &mut [u16; 20480],
+) -> io::Result<Machine> {
     match field(row, 0) {
-        0 => begun(row, common, private),
-        1 => call(m, row, common, private),
-        4 => ticked(m, field(row, 1)),
-        5 => rung(m),
-        6 => done(m, row, common, private),
-        11 => made(m, field(row, 1), common, private),
-        _ => set(m, row),
+        0 => begun(rt, row, common, private),
+        1 => call(rt, m, row, common, private),
+        4 => ticked(rt, m, field(row, 1)),
+        5 => rung(rt, m),
+        6 => done(rt, m, row, common, private),
+        11 => made(rt, m, field(row, 1), common, private),
+        _ => set(rt, m, row),
     }
 }
 
-fn run_row(m: Machine, row: u16, common: &mut [u16; 2048], private: &mut [u16; 20480]) -> Machine {
+fn run_row(
+    rt: &impl Print,
+    m: Machine,
+    row: u16,
+    common: &mut [u16; 2048],
+    private: &mut [u16; 20480],
+) -> io::Result<Machine> {
     let kind = field(row, 0);
     let silent = (kind == 2) | (kind == 3) | (kind == 10) | (kind == 12);
     if silent {
-        return prepare(m, row, common, private);
+        return prepare(rt, m, row, common, private);
     }
-    let next = act(m, row, common, private);
-    say_state(next, common, private);
-    next
+    let next = act(rt, m, row, common, private)?;
+    say_state(rt, next, common, private)?;
+    Ok(next)
 }
 
-fn main() {
+fn main(rt: HostRuntime) -> io::Result<()> {
     let mut common = [0u16; 2048];
     let mut private = [0u16; 20480];
     let mut m = fresh(0);
     for row in 0..COUNT {
-        m = run_row(m, row, &mut common, &mut private);
+        m = run_row(&rt, m, row, &mut common, &mut private)?;
     }
+    Ok(())
 }

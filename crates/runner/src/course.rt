@@ -6,11 +6,12 @@ use crate::report::say_written;
 use image::Refusal;
 use machine::Machine;
 use run::{Ended, Offered, Reply};
+use std::io;
 
 // The ticks that are given, in all, while nobody runs and somebody waits for the clock: 100 seconds.
 pub(crate) const IDLE: u32 = 100000;
 
-#[derive(Drop)]
+#[derive(Clone, Copy)]
 pub(crate) enum End {
     Budget,
     Idle,
@@ -21,7 +22,7 @@ pub(crate) enum End {
 }
 
 // The machine at the end, how it came to it, and how many instructions it ran.
-#[derive(Drop)]
+#[derive(Clone, Copy)]
 pub(crate) struct Course {
     pub(crate) machine: Machine,
     pub(crate) end: End,
@@ -29,7 +30,7 @@ pub(crate) struct Course {
 }
 
 // What a turn leaves: whether the run goes on, and where not, its end.
-#[derive(Drop)]
+#[derive(Clone, Copy)]
 struct Turn {
     machine: Machine,
     goes: bool,
@@ -60,53 +61,56 @@ fn ticked(m: Machine) -> Machine {
 
 // A device that has started is done at once, with status 0 and argument 0.
 fn served(
+    rt: &impl Print,
     m: Machine,
     d: u8,
     path: &[u8],
     common: &mut [u16; Machine::COMMON],
     private: &mut [u16; Machine::PRIVATE],
-) -> Machine {
-    say_written(path, d, kernel::record(m, d, common, private));
+) -> io::Result<Machine> {
+    say_written(rt, path, d, kernel::record(m, d, common, private))?;
     let x = run::done(m, d as u16, 0, 0, common, private);
-    x.machine
+    Ok(x.machine)
 }
 
 // Who idles goes on: the next turn, which then counts nothing, sees to the clock.
 fn followed(
+    rt: &impl Print,
     m: Machine,
     ended: Ended,
     o: Options,
     path: &[u8],
     common: &mut [u16; Machine::COMMON],
     private: &mut [u16; Machine::PRIVATE],
-) -> Turn {
+) -> io::Result<Turn> {
     match ended {
-        Ended::Onward => on(m),
-        Ended::Idle => on(m),
+        Ended::Onward => Ok(on(m)),
+        Ended::Idle => Ok(on(m)),
         Ended::Starting(d) => {
             if o.serve {
-                on(served(m, d, path, common, private))
+                Ok(on(served(rt, m, d, path, common, private)?))
             } else {
-                over(m, End::Started(d))
+                Ok(over(m, End::Started(d)))
             }
         }
-        Ended::Stopped => over(m, End::Stopped),
+        Ended::Stopped => Ok(over(m, End::Stopped)),
     }
 }
 
 // What follows a turn's instructions.
 fn settled(
+    rt: &impl Print,
     x: Offered,
     o: Options,
     path: &[u8],
     common: &mut [u16; Machine::COMMON],
     private: &mut [u16; Machine::PRIVATE],
-) -> Turn {
+) -> io::Result<Turn> {
     let m = x.machine;
     let reply = x.reply;
     match reply {
-        Reply::Did(ended) => followed(m, ended, o, path, common, private),
-        Reply::Refused(r) => over(m, End::Refused(r)),
+        Reply::Did(ended) => followed(rt, m, ended, o, path, common, private),
+        Reply::Refused(r) => Ok(over(m, End::Refused(r))),
     }
 }
 
@@ -144,13 +148,14 @@ fn ended(machine: Machine, end: End, count: u32) -> Course {
 
 // A turn goes to the next tick and counts no more than that; one that counts nothing finds nobody running.
 pub(crate) fn follow(
+    rt: &impl Print,
     start: Machine,
     o: Options,
     path: &[u8],
     code: &[u16],
     common: &mut [u16; Machine::COMMON],
     private: &mut [u16; Machine::PRIVATE],
-) -> Course {
+) -> io::Result<Course> {
     let mut machine = start;
     let mut count: u32 = 0;
     let mut next = o.tick;
@@ -159,18 +164,18 @@ pub(crate) fn follow(
         let quota = least(o.budget - count, next);
         let x = run::run(machine, code, quota, common, private);
         let n = least(x.count, quota);
-        let turn = settled(x, o, path, common, private);
+        let turn = settled(rt, x, o, path, common, private)?;
         machine = turn.machine;
         count = count + n;
         next = next - n;
         if !turn.goes {
             let end = turn.end;
-            return ended(machine, end, count);
+            return Ok(ended(machine, end, count));
         }
         if n == 0 {
             let ticks = ticks_left(machine, idle);
             if ticks == 0 {
-                return ended(machine, idle_end(machine), count);
+                return Ok(ended(machine, idle_end(machine), count));
             }
             idle = ticks - 1;
             next = 0;
@@ -180,5 +185,5 @@ pub(crate) fn follow(
             next = o.tick;
         }
     }
-    ended(machine, End::Budget, count)
+    Ok(ended(machine, End::Budget, count))
 }

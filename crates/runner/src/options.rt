@@ -1,7 +1,7 @@
 // The words of a command line: options, their numbers, and the names of images.
 
 // How the images that follow are run.
-#[derive(Drop)]
+#[derive(Clone, Copy)]
 pub(crate) struct Options {
     pub(crate) budget: u32,
     pub(crate) tick: u32,
@@ -9,7 +9,7 @@ pub(crate) struct Options {
 }
 
 // What the next word is to be, or that the last one was wrong.
-#[derive(Drop)]
+#[derive(Clone, Copy)]
 pub(crate) enum Next {
     Any,
     Budget,
@@ -17,7 +17,7 @@ pub(crate) enum Next {
     Wrong,
 }
 
-#[derive(Drop)]
+#[derive(Clone, Copy)]
 pub(crate) enum Word {
     Budget,
     Tick,
@@ -27,7 +27,7 @@ pub(crate) enum Word {
     Image,
 }
 
-#[derive(Drop)]
+#[derive(Clone, Copy)]
 pub(crate) enum Number {
     Is(u32),
     Not,

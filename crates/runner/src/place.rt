@@ -1,7 +1,7 @@
 // Where a process is: each created process is in exactly one place.
 use machine::{Machine, Queue};
 
-#[derive(Drop)]
+#[derive(Clone, Copy)]
 pub(crate) enum Place {
     Running,
     Ready(u8),

@@ -3,23 +3,25 @@ use crate::course::{Course, End, IDLE};
 use crate::place::{Place, place_of};
 use machine::{Gate, Machine, Process, Queue};
 use shown::{Line, say};
+use std::io;
 
 // A word that a program writes to the terminal or to the printer: operation 1.
-pub(crate) fn say_written(path: &[u8], d: u8, record: &[u16]) {
+pub(crate) fn say_written(rt: &impl Print, path: &[u8], d: u8, record: &[u16]) -> io::Result<()> {
     if record.len() == 4 {
         let prints = (d == 0) | (d == 3);
         if prints {
             if record[0] == 1 {
-                say(path);
+                say(rt, path)?;
                 Line::new()
                     .put(b": ")
                     .device(d)
                     .put(b" wrote ")
                     .word(record[2])
-                    .say();
+                    .say(rt)?;
             }
         }
     }
+    Ok(())
 }
 
 // The words of document 01's table of faults.
@@ -38,13 +40,13 @@ fn fault(line: Line, f: u8) -> Line {
     }
 }
 
-fn say_stop(f: u8, line: u16) {
+fn say_stop(rt: &impl Print, f: u8, line: u16) -> io::Result<()> {
     let at = line as u64;
     let words = Line::new()
         .put(b"stopped with ")
         .number(f as u64)
         .put(b" (");
-    fault(words, f).put(b") at line ").number(at).say();
+    fault(words, f).put(b") at line ").number(at).say(rt)
 }
 
 fn all_ended(m: Machine) -> bool {
@@ -59,17 +61,17 @@ fn all_ended(m: Machine) -> bool {
     true
 }
 
-fn say_idle(m: Machine) {
+fn say_idle(rt: &impl Print, m: Machine) -> io::Result<()> {
     let ended = all_ended(m);
     if ended {
-        say(b"idle: every process has ended\n");
+        say(rt, b"idle: every process has ended\n")
     } else {
-        say(b"idle: nobody can run\n");
+        say(rt, b"idle: nobody can run\n")
     }
 }
 
 // The four words of a started device's record.
-fn say_record(record: &[u16]) {
+fn say_record(rt: &impl Print, record: &[u16]) -> io::Result<()> {
     if record.len() == 4 {
         let status = record[1];
         let argument = record[2];
@@ -83,45 +85,47 @@ fn say_record(record: &[u16]) {
             .word(argument)
             .put(b", unit ")
             .word(unit)
-            .say();
+            .say(rt)?;
     }
+    Ok(())
 }
 
-fn say_start(d: u8, record: &[u16]) {
-    Line::new().device(d).put(b" started").say();
-    say_record(record);
+fn say_start(rt: &impl Print, d: u8, record: &[u16]) -> io::Result<()> {
+    Line::new().device(d).put(b" started").say(rt)?;
+    say_record(rt, record)
 }
 
-fn say_waited() {
+fn say_waited(rt: &impl Print) -> io::Result<()> {
     Line::new()
         .put(b"idle: still waiting for the clock, after ")
         .number(IDLE as u64)
         .put(b" ticks of waiting")
-        .say();
+        .say(rt)
 }
 
-fn say_budget(count: u32) {
+fn say_budget(rt: &impl Print, count: u32) -> io::Result<()> {
     Line::new()
         .put(b"budget of ")
         .number(count as u64)
         .put(b" instructions used up")
-        .say();
+        .say(rt)
 }
 
 fn say_end<'a>(
+    rt: &impl Print,
     c: Course,
     common: &'a [u16; Machine::COMMON],
     private: &'a [u16; Machine::PRIVATE],
-) {
+) -> io::Result<()> {
     let m = c.machine;
     let end = c.end;
     match end {
-        End::Budget => say_budget(c.count),
-        End::Idle => say_idle(m),
-        End::Waited => say_waited(),
-        End::Started(d) => say_start(d, kernel::record(m, d, common, private)),
-        End::Stopped => say_stop(m.stop, m.line),
-        End::Refused(r) => shown::say_refusal(r),
+        End::Budget => say_budget(rt, c.count),
+        End::Idle => say_idle(rt, m),
+        End::Waited => say_waited(rt),
+        End::Started(d) => say_start(rt, d, kernel::record(m, d, common, private)),
+        End::Stopped => say_stop(rt, m.stop, m.line),
+        End::Refused(r) => shown::say_refusal(rt, r),
     }
 }
 
@@ -133,12 +137,12 @@ fn fraction(line: Line, n: u16) -> Line {
         .number((n % 10) as u64)
 }
 
-fn say_clock(m: Machine) {
+fn say_clock(rt: &impl Print, m: Machine) -> io::Result<()> {
     let line = Line::new()
         .put(b"  clock         ")
         .number(m.seconds as u64)
         .put(b".");
-    fraction(line, m.fraction).put(b" s").say();
+    fraction(line, m.fraction).put(b" s").say(rt)
 }
 
 fn put_place(line: Line, p: Place) -> Line {
@@ -194,7 +198,7 @@ fn job(line: Line, in_job: bool) -> Line {
     }
 }
 
-fn say_process(m: Machine, q: u8, p: Process) {
+fn say_process(rt: &impl Print, m: Machine, q: u8, p: Process) -> io::Result<()> {
     let r = p.regs;
     let at = place_of(m, q, p.ended);
     let line = put_place(Line::new().right(q as u64, 9).to(11), at)
@@ -202,17 +206,21 @@ fn say_process(m: Machine, q: u8, p: Process) {
         .right(r.address as u64, 54)
         .right(r.line as u64, 60)
         .to(62);
-    put_held(job(line, r.in_job).to(70), p).say();
+    put_held(job(line, r.in_job).to(70), p).say(rt)
 }
 
-fn say_processes(m: Machine) {
-    say(b"  process  place                        class  address  line  in job  holds gates\n");
+fn say_processes(rt: &impl Print, m: Machine) -> io::Result<()> {
+    say(
+        rt,
+        b"  process  place                        class  address  line  in job  holds gates\n",
+    )?;
     for q in 0..Machine::PROCESSES {
         if q < m.created {
             let p = m.processes[q as usize];
-            say_process(m, q, p);
+            say_process(rt, m, q, p)?;
         }
     }
+    Ok(())
 }
 
 fn is_filled(cell: u8) -> bool {
@@ -249,82 +257,88 @@ fn put_holder(line: Line, holder: u8) -> Line {
     }
 }
 
-fn say_gate(g: u8, gate: Gate) {
+fn say_gate(rt: &impl Print, g: u8, gate: Gate) -> io::Result<()> {
     let queue = gate.queue;
     let cells = gate.cells;
     let line = put_holder(Line::new().right(g as u64, 6).to(8), gate.holder).to(23);
-    put_cells(put_queue(line, queue).to(42), cells).say();
+    put_cells(put_queue(line, queue).to(42), cells).say(rt)
 }
 
-fn say_gates(m: Machine) {
+fn say_gates(rt: &impl Print, m: Machine) -> io::Result<()> {
     if m.made == 0 {
-        say(b"  no gates\n");
-        return;
+        return say(rt, b"  no gates\n");
     }
-    say(b"  gate  state  holder  waiting            delayed, cell:process\n");
+    say(
+        rt,
+        b"  gate  state  holder  waiting            delayed, cell:process\n",
+    )?;
     for g in 0..Machine::GATES {
         if g < m.made {
             let gate = m.gates[g as usize];
-            say_gate(g, gate);
+            say_gate(rt, g, gate)?;
         }
     }
+    Ok(())
 }
 
 // The first 16 words that are not 0, under their heading.
-fn say_word(before: usize, a: usize, x: u16) {
+fn say_word(rt: &impl Print, before: usize, a: usize, x: u16) -> io::Result<()> {
     if before == 0 {
-        say(b"  common  word\n");
+        say(rt, b"  common  word\n")?;
     }
     if before < 16 {
-        Line::new().right(a as u64, 8).to(10).word(x).say();
+        Line::new().right(a as u64, 8).to(10).word(x).say(rt)?;
     }
+    Ok(())
 }
 
-fn say_rest(n: usize) {
+fn say_rest(rt: &impl Print, n: usize) -> io::Result<()> {
     if n == 0 {
-        say(b"  common store: every word is 0\n");
+        say(rt, b"  common store: every word is 0\n")?;
     }
     if 16 < n {
         Line::new()
             .put(b"  and ")
             .number((n - 16) as u64)
             .put(b" more that are not 0")
-            .say();
+            .say(rt)?;
     }
+    Ok(())
 }
 
-fn say_common(common: &[u16; Machine::COMMON]) {
+fn say_common(rt: &impl Print, common: &[u16; Machine::COMMON]) -> io::Result<()> {
     let mut n: usize = 0;
     for a in 0..Machine::COMMON {
         let x = common[a];
         if x != 0 {
-            say_word(n, a, x);
+            say_word(rt, n, a, x)?;
             n = n + 1;
         }
     }
-    say_rest(n);
+    say_rest(rt, n)
 }
 
 pub(crate) fn show<'a>(
+    rt: &impl Print,
     path: &[u8],
     c: Course,
     common: &'a [u16; Machine::COMMON],
     private: &'a [u16; Machine::PRIVATE],
-) {
+) -> io::Result<()> {
     let m = c.machine;
-    say(path);
-    say(b": ");
-    say_end(c, common, private);
+    say(rt, path)?;
+    say(rt, b": ")?;
+    say_end(rt, c, common, private)?;
     Line::new()
         .put(b"  instructions  ")
         .number(c.count as u64)
-        .say();
-    say_clock(m);
-    say(b"\n");
-    say_processes(m);
-    say(b"\n");
-    say_gates(m);
-    say(b"\n");
-    say_common(common);
-    say(b"\n");
+        .say(rt)?;
+    say_clock(rt, m)?;
+    say(rt, b"\n")?;
+    say_processes(rt, m)?;
+    say(rt, b"\n")?;
+    say_gates(rt, m)?;
+    say(rt, b"\n")?;
+    say_common(rt, common)?;
+    say(rt, b"\n")
 }

@@ -1,20 +1,37 @@
 // A line to be shown: what is put into it stands in columns that its maker chooses.
-ghost use Rattle.std.specs.Prelude.{◌≡◌};
+ghost use Rattle.std.specs.Prelude.{◌≡◌, ◌<◌, drop};
 ghost use Rattle.shown.specs.Line.{bytes, empty, pushed, put_all, to_column, decimal, right_to, signed_word, device_name};
 
-use libc::STDOUT_FILENO;
+use std::io;
 
 // The first len bytes of text; those after are spaces, so that a column is reached by a longer line.
-#[derive(Drop)]
+#[derive(Clone, Copy)]
 pub struct Line {
     len: usize,
     text: [u8; 120],
 }
 
-fn write_first(n: usize, text: &[u8]) {
+fn write_first(rt: &impl Print, n: usize, text: &[u8]) -> io::Result<()> {
     if n <= text.len() {
-        io::write_all(STDOUT_FILENO, &text[..n]);
+        rt.write_all(&text[..n])?;
     }
+    Ok(())
+}
+
+// Puts a number's decimal digits at the end of the array, and returns where they begin.
+fn decimal(n: u64, digits: &mut [u8; 20]) -> usize
+    ensures some { result < 20 }
+    ensures digits { drop result digits.new ≡ decimal n }
+{
+    let mut at = 19;
+    let mut rest = n;
+    while 10 <= rest {
+        digits[at] = b'0' + (rest % 10) as u8;
+        rest /= 10;
+        at -= 1;
+    }
+    digits[at] = b'0' + rest as u8;
+    at
 }
 
 impl Line {
@@ -28,6 +45,7 @@ impl Line {
     }
 
     // A full line stays as it is.
+    #[tactic(auto, using(crate::proofs::Laws::cases), unfolding(crate::specs::Line::pushed))]
     fn push(mut self, b: u8) -> Line
         ensures { result ≡ pushed self b }
     {
@@ -51,6 +69,7 @@ impl Line {
     }
 
     // What follows begins at a column, where that is not passed yet.
+    #[tactic(auto, using(crate::proofs::Laws::cases), unfolding(crate::specs::Line::to_column))]
     pub fn to(mut self, column: usize) -> Line
         ensures { result ≡ to_column self column }
     {
@@ -67,8 +86,8 @@ impl Line {
         ensures { result ≡ put_all self (decimal n) }
     {
         let mut digits = [0u8; 20];
-        let k = io::decimal(n, &mut digits);
-        self.put(&digits[..k])
+        let k = decimal(n, &mut digits);
+        self.put(&digits[k..])
     }
 
     // A number that ends at a column.
@@ -76,12 +95,14 @@ impl Line {
         ensures { result ≡ right_to self n column }
     {
         let mut digits = [0u8; 20];
-        let width = io::decimal(n, &mut digits);
+        let first = decimal(n, &mut digits);
+        let width = 20 - first;
         let start = if width < column { column - width } else { 0 };
-        self.to(start).put(&digits[..width])
+        self.to(start).put(&digits[first..])
     }
 
     // A word, signed.
+    #[tactic(auto, using(crate::proofs::Laws::cases), unfolding(crate::specs::Line::signed_word, crate::specs::Line::bytes))]
     pub fn word(self, x: u16) -> Line
         ensures { result ≡ signed_word self x }
     {
@@ -107,9 +128,9 @@ impl Line {
     }
 
     // Writes the line and its end.
-    pub fn say(self) {
+    pub fn say(self, rt: &impl Print) -> io::Result<()> {
         let text = self.text;
-        write_first(self.len, &text);
-        io::write_all(STDOUT_FILENO, b"\n");
+        write_first(rt, self.len, &text)?;
+        rt.write_all(b"\n")
     }
 }

@@ -5,15 +5,15 @@ ghost use Rattle.shown.specs.Refused.{block_words, refusal_line};
 
 use crate::line::Line;
 use image::Refusal;
-use libc::STDOUT_FILENO;
+use std::io;
 
-pub fn say(text: &[u8]) {
-    io::write_all(STDOUT_FILENO, text);
+pub fn say(rt: &impl Print, text: &[u8]) -> io::Result<()> {
+    rt.write_all(text)
 }
 
 // The table's number and words.
-pub fn say_refusal(r: Refusal) {
-    refusal_line(r).say();
+pub fn say_refusal(rt: &impl Print, r: Refusal) -> io::Result<()> {
+    refusal_line(r).say(rt)
 }
 
 fn refusal_line(r: Refusal) -> Line

@@ -1,7 +1,7 @@
 // Runs the arithmetic of words on 210 edge cases. A line has the code, its operands, and the word or the fault.
 #![tactic(auto)]
 
-use libc::STDOUT_FILENO;
+use std::io;
 use word::Answer;
 
 // NOT and NEG, and codes with no such operation, each on 10 words.
@@ -37,84 +37,78 @@ const MAX: [u16; 10] = [10, 10, 2, 2, 10, 2, 2, 32767, 3, 10];
 
 const LEN: [u16; 10] = [2, 2, 4095, 4096, 5, 1, 1, 65535, 10, 1];
 
-fn say(text: &[u8]) {
-    io::write_all(STDOUT_FILENO, text);
+fn say(rt: &impl Print, text: &str) -> io::Result<()> {
+    print!(rt; "{text}")
 }
 
-fn say_number(n: u16) {
-    io::print_decimal(STDOUT_FILENO, n as u64);
-    say(b" ");
+fn say_number(rt: &impl Print, n: u16) -> io::Result<()> {
+    print!(rt; "{n} ")
 }
 
-fn say_answer(answer: Answer) {
+fn say_answer(rt: &impl Print, answer: Answer) -> io::Result<()> {
     match answer {
-        Answer::Word(w) => {
-            say(b"word ");
-            io::print_decimal(STDOUT_FILENO, w as u64);
-        }
-        Answer::Fault(f) => {
-            say(b"fault ");
-            io::print_decimal(STDOUT_FILENO, f as u64);
-        }
+        Answer::Word(w) => print!(rt; "word {w}")?,
+        Answer::Fault(f) => print!(rt; "fault {f}")?,
     }
-    say(b"\n");
+    say(rt, "\n")
 }
 
-fn unary(code: u16, a: u16) {
-    say_number(code);
-    say_number(a);
-    say_answer(word::unary(code, a));
+fn unary(rt: &impl Print, code: u16, a: u16) -> io::Result<()> {
+    say_number(rt, code)?;
+    say_number(rt, a)?;
+    say_answer(rt, word::unary(code, a))
 }
 
-fn binary(code: u16, a: u16, b: u16) {
-    say_number(code);
-    say_number(a);
-    say_number(b);
-    say_answer(word::binary(code, a, b));
+fn binary(rt: &impl Print, code: u16, a: u16, b: u16) -> io::Result<()> {
+    say_number(rt, code)?;
+    say_number(rt, a)?;
+    say_number(rt, b)?;
+    say_answer(rt, word::binary(code, a, b))
 }
 
-fn local_addr(b: u16, d: u16) {
-    say_number(4);
-    say_number(b);
-    say_number(d);
-    say_answer(word::local_addr(b, d));
+fn local_addr(rt: &impl Print, b: u16, d: u16) -> io::Result<()> {
+    say_number(rt, 4)?;
+    say_number(rt, b)?;
+    say_number(rt, d)?;
+    say_answer(rt, word::local_addr(b, d))
 }
 
-fn range(i: u16, min: u16, max: u16) {
-    say_number(7);
-    say_number(i);
-    say_number(min);
-    say_number(max);
-    say_answer(word::range(i, min, max));
+fn range(rt: &impl Print, i: u16, min: u16, max: u16) -> io::Result<()> {
+    say_number(rt, 7)?;
+    say_number(rt, i)?;
+    say_number(rt, min)?;
+    say_number(rt, max)?;
+    say_answer(rt, word::range(i, min, max))
 }
 
-fn index(address: u16, i: u16, min: u16, max: u16, len: u16) {
-    say_number(6);
-    say_number(address);
-    say_number(i);
-    say_number(min);
-    say_number(max);
-    say_number(len);
-    say_answer(word::index(address, i, min, max, len));
+fn index(rt: &impl Print, address: u16, i: u16, min: u16, max: u16, len: u16) -> io::Result<()> {
+    say_number(rt, 6)?;
+    say_number(rt, address)?;
+    say_number(rt, i)?;
+    say_number(rt, min)?;
+    say_number(rt, max)?;
+    say_number(rt, len)?;
+    say_answer(rt, word::index(address, i, min, max, len))
 }
 
-fn case(n: usize) {
+fn case(rt: &impl Print, n: usize) -> io::Result<()> {
     let k = n % 10;
     if n < 50 {
-        unary(UNARY[n / 10], WORDS[k]);
+        unary(rt, UNARY[n / 10], WORDS[k])
     } else if n < 180 {
-        binary(BINARY[n / 10 - 5], LEFT[k], RIGHT[k]);
+        binary(rt, BINARY[n / 10 - 5], LEFT[k], RIGHT[k])
     } else if n < 190 {
-        local_addr(MARK[k], DISTANCE[k]);
+        local_addr(rt, MARK[k], DISTANCE[k])
     } else if n < 200 {
-        range(TOP[k], LEAST[k], MOST[k]);
+        range(rt, TOP[k], LEAST[k], MOST[k])
     } else {
-        index(ADDRESS[k], INDEX[k], MIN[k], MAX[k], LEN[k]);
+        index(rt, ADDRESS[k], INDEX[k], MIN[k], MAX[k], LEN[k])
     }
 }
 
-fn main() {
+fn main(rt: HostRuntime) -> io::Result<()> {
     for n in 0..210usize {
-        case(n);
+        case(&rt, n)?;
     }
+    Ok(())
 }
