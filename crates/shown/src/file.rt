@@ -2,7 +2,7 @@
 ghost use Rattle.std.specs.Prelude.{◌≡◌, ◌≤◌, length, IfOk, OnErr};
 
 use crate::words::say;
-use std::io::Read;
+use std::io::{Read, Write};
 use std::rt::Files;
 use std::{fs, io};
 
@@ -80,8 +80,17 @@ fn is_at_end<R: Print + Eprint, F: Read>(rt: &R, path: &[u8], file: &mut F) -> i
     }
 }
 
-// Says on the standard error what is wrong with a file.
+// Says on the standard error what is wrong with a file, in the system's words, without the number that std puts behind them.
 fn fail(rt: &impl Eprint, path: &[u8], error: &io::Error) -> io::Result<()> {
     let name = str::from_utf8(path).unwrap_or("a name that is not UTF-8");
-    eprintln!(rt; "{name}: {error}")
+    let mut text = [0u8; 256];
+    let mut cursor = io::Cursor::new(&mut text[..]);
+    write!(cursor, "{error}")?;
+    let said = text.split(|b| *b == 0).next().unwrap_or(b"");
+    let words = str::from_utf8(said).unwrap_or("");
+    let words = match words.split_once(" (os error ") {
+        Some((before, _)) => before,
+        None => words,
+    };
+    eprintln!(rt; "{name}: {words}")
 }
