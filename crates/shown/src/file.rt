@@ -85,7 +85,8 @@ fn fail(rt: &impl Eprint, path: &[u8], error: &io::Error) -> io::Result<()> {
     let name = str::from_utf8(path).unwrap_or("a name that is not UTF-8");
     let mut text = [0u8; 256];
     let mut cursor = io::Cursor::new(&mut text[..]);
-    write!(cursor, "{error}")?;
+    // words that are too long for the text are cut, which is no error
+    write!(cursor, "{error}").unwrap_or(());
     let said = text.split(|b| *b == 0).next().unwrap_or(b"");
     let words = str::from_utf8(said).unwrap_or("");
     let words = match words.split_once(" (os error ") {
