@@ -7,12 +7,15 @@ use native.Mathlib.Omega.{arith}
 use lib.Dec.{ltb, eqb}
 use borrow.Author.Tests.{ltb-true, lt-ltb, le-ltb, ne_eqb, le-leb, lt-leb}
 use Rattle.notation.proofs.Upto.{NoneOf, none-past}
+use Rattle.word.specs.Word.{number_of}
 use Rattle.machine.specs.View.{View, faults, Effect, effect, n, op, faulted}
 use Rattle.machine.specs.Job.{end_job, takes_stop}
 use Rattle.machine.specs.Instruction.{perform, execute, settled, instruct}
 use Rattle.laws.proofs.Faults.{faults_keep}
-use Rattle.engine.specs.declared.stack.Out.{Out}
-use Rattle.engine.specs.declared.stack.Out.TheVariants.{Next, Fault, Call}
+use Rattle.std.specs.Prelude.{Result, Ok, Err}
+use Rattle.machine.specs.declared.Regs.{Regs}
+use Rattle.engine.specs.declared.sight.Stop.{Stop}
+use Rattle.engine.specs.declared.sight.Stop.TheVariants.{Fault, Call}
 use Rattle.engine.specs.Did.{seen, did}
 
 -- ---- past all codes there is none
@@ -29,13 +32,13 @@ pub ends : (v : View) (f : ℕ) (d : Effect) → v.regs.in_job ≡ true → end_
 ends v f d j = rw j
 
 -- where perform answered a fault, both stores are as before, so it is settled on the view
-pub settles : (v : View) (code : ℕ) (o : Out) (c q : List ℕ) → did o c q ≡ perform v code
+pub settles : (v : View) (code : ℕ) (o : Result Regs Stop) (c q : List ℕ) → did o c q ≡ perform v code
     → settled (seen v.code v.floor v.holding v.regs c q) (did o c q).out (did o c q) ≡ settled v (perform v code).out (perform v code)
-settles v code (Next r) c q e = rw (← e)
-settles v code (Fault f) c q e =
-    let k : effect (faults f) c q ≡ faulted v f = e ∙ faults_keep v code f (ap (λ d. d.out) (sym e)) in
+settles v code (Ok r) c q e = rw (← e)
+settles v code (Err (Fault f)) c q e =
+    let k : effect (faults (number_of f)) c q ≡ faulted v (number_of f) = e ∙ faults_keep v code (number_of f) (ap (λ d. d.out) (sym e)) in
     rw (← e, ap (λ d. d.common) k, ap (λ d. d.own) k)
-settles v code (Call k) c q e = rw (← e)
+settles v code (Err (Call k)) c q e = rw (← e)
 
 -- ---- one instruction: past the code it faults; a stop is taken; or it does what its code says
 pub past-code : (v : View) → n v ≤ v.regs.address → settled v (faults 7) (faulted v 7) ≡ instruct v

@@ -1,6 +1,7 @@
 -- A burst: up to a budget of instructions of one process that need no kernel
 use Rattle.std.specs.Prelude.{Bool, ◌&&◌, not, List, ℕ, zero, suc, ◌+◌, leb, eqb, length}
 use Rattle.notation.specs.If.{if}
+use Rattle.word.specs.Word.{number_of}
 use Rattle.machine.specs.declared.Regs.{Regs}
 use Rattle.machine.specs.View.{View, Out, next, faults, calls, Effect, n}
 use Rattle.machine.specs.Instruction.{instruct}
@@ -33,7 +34,7 @@ bursted r count e c q = record { regs = r; count = count; ending = e; common = c
 abbrev pub end_says : End → Ending
 end_says Budget = at_budget
 end_says (Call k) = at_call k
-end_says (Fault f) = at_fault f
+end_says (Fault f) = at_fault (number_of f)
 end_says Job = at_jobs_end
 end_says Unfit = unfit
 

@@ -1,56 +1,42 @@
 -- What the engine's functions see and answer, in the words of the definitions
-use Rattle.std.specs.Prelude.{◌≡◌, Bool, true, List, ℕ, ◌≤◌}
+use Rattle.std.specs.Prelude.{◌≡◌, Bool, List, ℕ, Result, Ok, Err}
+use Rattle.word.specs.Word.{number_of}
+use Rattle.word.specs.declared.Fault.{Fault as Faults}
 use Rattle.machine.specs.declared.Regs.{Regs}
 use Rattle.machine.specs.View.{View, next, faults, calls, Effect, effect}
-use Rattle.engine.specs.declared.stack.Out.{Out}
-use Rattle.engine.specs.declared.stack.Out.TheVariants.{Next, Fault, Call}
+use Rattle.engine.specs.declared.sight.Sight.{Sight}
+use Rattle.engine.specs.declared.sight.Stop.{Stop}
+use Rattle.engine.specs.declared.sight.Stop.TheVariants.{Fault, Call}
 
--- what an instruction sees, made of a function's parameters
+-- what an instruction sees, made of a burst's parameters, and of an instruction's with the two stores
 abbrev pub seen : List ℕ → ℕ → Bool → Regs → List ℕ → List ℕ → View
 seen code floor holding r common own =
     record { code = code; floor = floor; holding = holding; regs = r; common = common; own = own }
 
--- the cases of the code's answer, with the stores after it
-abbrev pub did : Out → List ℕ → List ℕ → Effect
-did (Next r) c q = effect (next r) c q
-did (Fault f) c q = effect (faults f) c q
-did (Call k) c q = effect (calls k) c q
+abbrev pub sees : Sight → List ℕ → List ℕ → View
+sees v common own = seen v.code.now v.floor v.holding v.regs common own
 
--- ---- a function that is passed only a part of the view does what the definition does, whatever the rest is
-abbrev pub OnRegs : Out → Regs → (View → Effect) → Type 0
-OnRegs o r f = (code : List ℕ) (floor : ℕ) (h : Bool) (c q : List ℕ) → did o c q ≡ f (seen code floor h r c q)
+-- the cases of the code's answer, with the stores after it: of any instruction, and of one that calls no kernel
+abbrev pub did : Result Regs Stop → List ℕ → List ℕ → Effect
+did (Ok r) c q = effect (next r) c q
+did (Err (Fault f)) c q = effect (faults (number_of f)) c q
+did (Err (Call k)) c q = effect (calls k) c q
 
-abbrev pub OnCode : Out → List ℕ → Regs → (View → Effect) → Type 0
-OnCode o code r f = (floor : ℕ) (h : Bool) (c q : List ℕ) → did o c q ≡ f (seen code floor h r c q)
+abbrev pub went : Result Regs Faults → List ℕ → List ℕ → Effect
+went (Ok r) c q = effect (next r) c q
+went (Err f) c q = effect (faults (number_of f)) c q
 
-abbrev pub OnHolding : Out → List ℕ → Bool → Regs → (View → Effect) → Type 0
-OnHolding o code h r f = (floor : ℕ) (c q : List ℕ) → did o c q ≡ f (seen code floor h r c q)
+-- of KTRAP
+abbrev pub traps : Result ℕ Faults → List ℕ → List ℕ → Effect
+traps (Ok k) c q = effect (calls k) c q
+traps (Err f) c q = effect (faults (number_of f)) c q
 
-abbrev pub OnWords : Out → List ℕ → Regs → List ℕ → (View → Effect) → Type 0
-OnWords o code r q f = (floor : ℕ) (h : Bool) (c : List ℕ) → did o c q ≡ f (seen code floor h r c q)
+-- ---- a function that is passed no store, or the process's own part alone, does what the definition does, whatever the rest is
+abbrev pub OnRegs : Result Regs Faults → Sight → (View → Effect) → Type 0
+OnRegs o v f = (c q : List ℕ) → went o c q ≡ f (sees v c q)
 
-abbrev pub OnOwn : Out → Regs → List ℕ → List ℕ → (View → Effect) → Type 0
-OnOwn o r q q' f = (code : List ℕ) (floor : ℕ) (h : Bool) (c : List ℕ) → did o c q' ≡ f (seen code floor h r c q)
+abbrev pub OnOwn : Result Regs Faults → Sight → List ℕ → List ℕ → (View → Effect) → Type 0
+OnOwn o v q q' f = (c : List ℕ) → went o c q' ≡ f (sees v c q)
 
-abbrev pub OnStack : Out → ℕ → Regs → List ℕ → List ℕ → (View → Effect) → Type 0
-OnStack o floor r q q' f = (code : List ℕ) (h : Bool) (c : List ℕ) → did o c q' ≡ f (seen code floor h r c q)
-
-abbrev pub OnFrame : Out → List ℕ → ℕ → Regs → List ℕ → List ℕ → (View → Effect) → Type 0
-OnFrame o code floor r q q' f = (h : Bool) (c : List ℕ) → did o c q' ≡ f (seen code floor h r c q)
-
-abbrev pub OnStores : Out → ℕ → Regs → List ℕ → List ℕ → List ℕ → List ℕ → (View → Effect) → Type 0
-OnStores o floor r c c' q q' f = (code : List ℕ) (h : Bool) → did o c' q' ≡ f (seen code floor h r c q)
-
--- ---- the marks in their order, as in every sound state
-pub record Ready (floor : ℕ) (r : Regs) : Type 0 where
-  pub low : 2048 ≤ floor
-  pub floored : floor ≤ r.s
-  pub framed : r.s ≤ r.b
-  pub topped : r.b ≤ r.c
-  pub high : r.c ≤ 4096
-  pub near : r.address ≤ 16256
-
--- with a job's saved S, for a job that may end here
-pub record ReadyToEnd (floor : ℕ) (r : Regs) : Type 0 where
-  pub ready : Ready floor r
-  pub saved : r.in_job ≡ true → r.saved_s ≤ 4096
+abbrev pub OnStores : Result Regs Faults → Sight → List ℕ → List ℕ → List ℕ → List ℕ → (View → Effect) → Type 0
+OnStores o v c c' q q' f = went o c' q' ≡ f (sees v c q)

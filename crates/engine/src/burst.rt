@@ -6,15 +6,16 @@ ghost use Rattle.engine.specs.Did.{seen};
 ghost use Rattle.engine.specs.Burst.{burst_says, goes_on, bursts, fit};
 
 use crate::perform::instruct;
-use crate::stack::{Out, wide};
+use crate::sight::{Common, Own, Sight, Stop};
 use machine::{Machine, Regs};
+use word::Fault;
 
-// How a burst ends: a kernel call and a fault are left to be done.
+// How a burst ends, in one of five ways of which none is its own failure, so no Result: a kernel call and a fault are left to be done.
 #[derive(Clone, Copy)]
 pub enum End {
     Budget,
     Call(u16),
-    Fault(u16),
+    Fault(Fault),
     Job,
     Unfit,
 }
@@ -33,13 +34,11 @@ fn job_is_ok(n: usize, r: Regs) -> bool
     if r.in_job {
         let stop = (r.reason == 0)
             | ((Machine::FIRST_REASON <= r.reason) & (r.reason <= Machine::LAST_REASON));
-        let end = wide(r.c) + wide(r.p);
-        let back = wide(r.saved_address);
         (r.c == r.saved_s)
             & (r.saved_s <= r.saved_b)
             & (r.saved_b <= Machine::CEILING)
-            & (end <= Machine::CEILING_AT)
-            & (back <= n)
+            & (usize::from(r.c) + usize::from(r.p) <= Machine::CEILING_AT)
+            & (usize::from(r.saved_address) <= n)
             & stop
     } else {
         (r.c == Machine::CEILING) & (r.reason == 0)
@@ -51,17 +50,15 @@ fn is_fit(code: &[u16], floor: u16, r: Regs, common: usize, own: usize) -> bool
     ensures { (h : Bool) (c q : List ℕ) → common ≡ length c → own ≡ length q → result ≡ fit (seen code.now floor h r c q) }
 {
     let n = code.len();
-    let at = wide(r.address);
-    let job = job_is_ok(n, r);
     (common == Machine::COMMON)
         & (own == Machine::PART)
         & (n <= Machine::MOST_CODE)
-        & (at <= n)
+        & (usize::from(r.address) <= n)
         & (Machine::OWN <= floor)
         & (floor <= r.s)
         & (r.s <= r.b)
         & (r.b <= r.c)
-        & job
+        & job_is_ok(n, r)
 }
 
 // Up to a budget of instructions.
@@ -76,14 +73,15 @@ pub fn run_burst(
 ) -> Burst
     ensures { burst_says result common.new own.new ≡ bursts budget (seen code.now floor holding r common.old own.old) }
 {
-    let fit = is_fit(code, floor, r, common.len(), own.len());
-    if !fit {
+    if !is_fit(code, floor, r, common.len(), own.len()) {
         return Burst {
             regs: r,
             count: 0,
             end: End::Unfit,
         };
     }
+    let common = common.as_mut_array().unwrap();
+    let own = own.as_mut_array().unwrap();
     go_on(code, floor, holding, r, budget, common, own)
 }
 
@@ -94,38 +92,41 @@ fn go_on(
     holding: bool,
     r: Regs,
     budget: u32,
-    common: &mut [u16],
-    own: &mut [u16],
+    common: &mut Common,
+    own: &mut Own,
 ) -> Burst
     requires { Fit (seen code.now floor holding r common.old own.old) × (length code.now ≤ 16256) }
     ensures { burst_says result common.new own.new ≡ goes_on 0 budget (seen code.now floor holding r common.old own.old) }
 {
-    let mut regs = r;
-    let mut count: u32 = 0;
-    while count < budget {
-        match instruct(code, floor, holding, regs, common, own) {
-            Out::Next(next) => {
-                let over = regs.in_job & !next.in_job;
-                regs = next;
-                count += 1;
+    let mut v = Sight {
+        code,
+        floor,
+        holding,
+        regs: r,
+    };
+    for count in 0..budget {
+        match instruct(&v, common, own) {
+            Ok(next) => {
+                let over = v.regs.in_job && !next.in_job;
+                v.regs = next;
                 if over {
                     return Burst {
-                        regs,
-                        count,
+                        regs: next,
+                        count: count + 1,
                         end: End::Job,
                     };
                 }
             }
-            Out::Fault(f) => {
+            Err(Stop::Fault(f)) => {
                 return Burst {
-                    regs,
+                    regs: v.regs,
                     count,
                     end: End::Fault(f),
                 };
             }
-            Out::Call(k) => {
+            Err(Stop::Call(k)) => {
                 return Burst {
-                    regs,
+                    regs: v.regs,
                     count,
                     end: End::Call(k),
                 };
@@ -133,8 +134,8 @@ fn go_on(
         }
     }
     Burst {
-        regs,
-        count,
+        regs: v.regs,
+        count: budget,
         end: End::Budget,
     }
 }

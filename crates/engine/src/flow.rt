@@ -1,85 +1,58 @@
 // Jumps: codes 20 to 22.
-ghost use Rattle.std.specs.Prelude.{◌≡◌, ◌+◌, ◌≤◌, ◌<◌, length};
-ghost use Rattle.machine.specs.View.{arg, goes, to_target};
+ghost use Rattle.machine.specs.View.{to_target, goes};
 ghost use Rattle.machine.specs.Instruction.{jump, falsejump, casejump};
-ghost use Rattle.engine.specs.Did.{OnCode, OnWords, Ready};
+ghost use Rattle.engine.specs.Did.{OnRegs, OnOwn};
 
-use crate::stack::{Out, moved, wide};
+use crate::sight::{Own, Sight};
 use machine::Regs;
-use word::{Answer, fault};
+use word::Fault;
 
 // On at a taken target, with S; 7 at or past n.
-pub(crate) fn go_to(code: &[u16], r: Regs, t: u16, s: u16) -> Out
-    ensures { OnCode result code.now r (λ v. to_target v t (goes v t s)) }
+#[tactic(auto, using(machine::proofs::Laws::cases))]
+pub(crate) fn go_to(v: &Sight, t: u16, s: u16) -> Result<Regs, Fault>
+    ensures { OnRegs result v.now (λ v. to_target v t (goes v t s)) }
 {
-    if wide(t) < code.len() {
-        Out::Next(moved(r, t, s))
-    } else {
-        Out::Fault(fault::CODE)
+    if v.code.len() <= usize::from(t) {
+        return Err(Fault::Code);
     }
+    Ok(v.at(t, s))
 }
 
 // 20 JUMP t.
-pub(crate) fn jump(code: &[u16], r: Regs) -> Out
-    requires { r.address ≤ 16256 }
-    ensures { OnCode result code.now r jump }
+#[tactic(auto, using(machine::proofs::Laws::cases), unfolding(machine::specs::Instruction::jump))]
+pub(crate) fn jump(v: &Sight) -> Result<Regs, Fault>
+    ensures { OnRegs result v.now jump }
 {
-    let at = r.address as usize;
-    if at + 2 <= code.len() {
-        go_to(code, r, code[at + 1], r.s)
-    } else {
-        Out::Fault(fault::CODE)
-    }
+    let [t] = v.arguments::<1>()?;
+    go_to(v, t, v.regs.s)
 }
 
 // 21 FALSEJUMP t, where no stop is taken.
-pub(crate) fn falsejump(code: &[u16], floor: u16, r: Regs, own: &[u16]) -> Out
-    requires { Ready floor r × (length own.now ≡ 2048) }
-    ensures { OnWords result code.now r own.now falsejump }
+#[tactic(auto, using(machine::proofs::Laws::cases), unfolding(machine::specs::Instruction::falsejump))]
+pub(crate) fn falsejump(v: &Sight, own: &Own) -> Result<Regs, Fault>
+    ensures { OnOwn result v.now own.now own.now falsejump }
 {
-    let at = r.address as usize;
-    if code.len() < at + 2 {
-        return Out::Fault(fault::CODE);
-    }
-    let s = r.s;
-    if r.b < s + 1 {
-        return Out::Fault(fault::CODE);
-    }
-    if own[(s - 2048) as usize] == 0 {
-        go_to(code, r, code[at + 1], s + 1)
+    let [t] = v.arguments::<1>()?;
+    let [w] = v.words::<1>(own)?;
+    let s = v.regs.s + 1;
+    if w == 0 {
+        go_to(v, t, s)
     } else {
-        Out::Next(moved(r, r.address + 2, s + 1))
+        Ok(v.at(v.regs.address + 2, s))
     }
 }
 
 // 22 CASEJUMP min m t1..tm.
-pub(crate) fn casejump(code: &[u16], floor: u16, r: Regs, own: &[u16]) -> Out
-    requires { Ready floor r × (length own.now ≡ 2048) }
-    ensures { OnWords result code.now r own.now casejump }
+#[tactic(auto, using(machine::proofs::Laws::cases), unfolding(machine::specs::Instruction::casejump))]
+pub(crate) fn casejump(v: &Sight, own: &Own) -> Result<Regs, Fault>
+    ensures { OnOwn result v.now own.now own.now casejump }
 {
-    let at = r.address as usize;
-    if code.len() < at + 3 {
-        return Out::Fault(fault::CODE);
+    let [min, m] = v.arguments::<2>()?;
+    let first = usize::from(v.regs.address) + 3;
+    if v.code.len() < first + usize::from(m) {
+        return Err(Fault::Code);
     }
-    let m = code[at + 2];
-    if code.len() < at + (3 + wide(m)) {
-        return Out::Fault(fault::CODE);
-    }
-    let s = r.s;
-    if r.b < s + 1 {
-        return Out::Fault(fault::CODE);
-    }
-    match word::case_place(own[(s - 2048) as usize], code[at + 1], m) {
-        Answer::Word(k) => go_to_case(code, r, wide(k), s + 1),
-        Answer::Fault(f) => Out::Fault(f),
-    }
-}
-
-// On at the target of the case in place k.
-fn go_to_case(code: &[u16], r: Regs, k: usize, s: u16) -> Out
-    requires { (r.address + (3 + k)) < length code.now }
-    ensures { OnCode result code.now r (λ v. to_target v (arg v (3 + k)) (goes v (arg v (3 + k)) s)) }
-{
-    let at = r.address as usize;
-    go_to(code, r, code[at + (3 + k)], s)
+    let [i] = v.words::<1>(own)?;
+    let k = word::case_place(i, min, m)?;
+    go_to(v, v.code[first + usize::from(k)], v.regs.s + 1)
 }

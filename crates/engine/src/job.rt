@@ -1,76 +1,59 @@
 // Jobs: codes 26 and 27, KTRAP, and the end of a job.
-ghost use Rattle.std.specs.Prelude.{◌≡◌, ◌≤◌, length};
+ghost use Rattle.std.specs.Prelude.{◌≡◌, true, List, ℕ};
 ghost use Rattle.machine.specs.Job.{end_job};
-ghost use Rattle.machine.specs.Instruction.{in_job, callprog, exitprog, ktrap};
-ghost use Rattle.engine.specs.Did.{OnCode, OnStack, OnHolding, Ready, ReadyToEnd};
+ghost use Rattle.machine.specs.Instruction.{callprog, exitprog, ktrap};
+ghost use Rattle.engine.specs.Did.{sees, traps, OnRegs, OnOwn};
 
-use crate::stack::{Out, wide};
+use crate::sight::{Own, Sight};
 use machine::{Machine, Regs};
-use word::fault;
+use word::Fault;
 
 // The job's end: the marks as before the call, and the result pushed; 6 where there is no room.
-pub(crate) fn end_job(floor: u16, r: Regs, res: u16, own: &mut [u16]) -> Out
-    requires { (2048 ≤ floor) × (r.saved_s ≤ 4096) × (length own.old ≡ 2048) }
-    ensures { OnStack result floor r own.old own.new (λ v. end_job v res) }
+#[inline(always)]
+#[tactic(auto, using(machine::proofs::Laws::cases), unfolding(machine::specs::Job::end_job))]
+pub(crate) fn end_job(v: &Sight, res: u16, own: &mut Own) -> Result<Regs, Fault>
+    requires { v.now.regs.in_job ≡ true }
+    ensures { OnOwn result v.now own.old own.new (λ v. end_job v res) }
 {
-    let saved = r.saved_s;
-    if floor < saved {
-        let s = saved - 1;
-        own[(s - 2048) as usize] = res;
-        Out::Next(Regs {
-            address: r.saved_address,
-            line: r.line,
-            s,
-            b: r.saved_b,
-            c: Machine::CEILING,
-            in_job: false,
-            saved_s: 0,
-            saved_b: 0,
-            saved_address: 0,
-            p: 0,
-            reason: 0,
-        })
-    } else {
-        Out::Fault(fault::STACK_LIMIT)
+    let r = v.regs;
+    if r.saved_s <= v.floor {
+        return Err(Fault::StackLimit);
     }
+    let s = r.saved_s - 1;
+    own[usize::from(s - Machine::OWN)] = res;
+    Ok(Regs {
+        address: r.saved_address,
+        line: r.line,
+        s,
+        b: r.saved_b,
+        c: Machine::CEILING,
+        in_job: false,
+        saved_s: 0,
+        saved_b: 0,
+        saved_address: 0,
+        p: 0,
+        reason: 0, // no stop is pending any more
+    })
 }
 
 // 26 CALLPROG t p.
-pub(crate) fn callprog(code: &[u16], floor: u16, holding: bool, r: Regs) -> Out
-    requires { Ready floor r }
-    ensures { OnHolding result code.now holding r callprog }
+#[tactic(auto, using(machine::proofs::Laws::cases), unfolding(machine::specs::Instruction::callprog))]
+pub(crate) fn callprog(v: &Sight) -> Result<Regs, Fault>
+    ensures { OnRegs result v.now callprog }
 {
-    let at = r.address as usize;
-    if code.len() < at + 3 {
-        return Out::Fault(fault::CODE);
+    let [t, p] = v.arguments::<2>()?;
+    let r = v.regs;
+    if r.in_job || usize::from(r.b) < usize::from(r.s) + usize::from(p) {
+        return Err(Fault::Code);
     }
-    if r.in_job {
-        return Out::Fault(fault::CODE);
+    if v.holding {
+        return Err(Fault::Gate);
     }
-    let t = code[at + 1];
-    let p = code[at + 2];
-    let s = r.s;
-    if wide(r.b) < wide(s) + wide(p) {
-        return Out::Fault(fault::CODE);
+    if v.code.len() <= usize::from(t) {
+        return Err(Fault::Code);
     }
-    if holding {
-        return Out::Fault(fault::GATE);
-    }
-    if code.len() <= wide(t) {
-        return Out::Fault(fault::CODE);
-    }
-    Out::Next(begun(r, t, p))
-}
-
-// The registers of a job that starts at t with p words.
-fn begun(r: Regs, t: u16, p: u16) -> Regs
-    requires { r.address ≤ 16256 }
-    ensures { result ≡ in_job r t p }
-{
-    Regs {
+    Ok(Regs {
         address: t,
-        line: r.line,
-        s: r.s,
         b: r.s,
         c: r.s,
         in_job: true,
@@ -79,37 +62,30 @@ fn begun(r: Regs, t: u16, p: u16) -> Regs
         saved_address: r.address + 3,
         p,
         reason: 0,
-    }
+        ..r
+    })
 }
 
 // 27 EXITPROG.
-pub(crate) fn exitprog(floor: u16, r: Regs, own: &mut [u16]) -> Out
-    requires { ReadyToEnd floor r × (length own.old ≡ 2048) }
-    ensures { OnStack result floor r own.old own.new exitprog }
+#[inline(always)]
+#[tactic(auto, using(machine::proofs::Laws::cases), unfolding(machine::specs::Instruction::exitprog))]
+pub(crate) fn exitprog(v: &Sight, own: &mut Own) -> Result<Regs, Fault>
+    ensures { OnOwn result v.now own.old own.new exitprog }
 {
-    if r.in_job {
-        end_job(floor, r, r.reason, own)
-    } else {
-        Out::Fault(fault::CODE)
+    if !v.regs.in_job {
+        return Err(Fault::Code);
     }
+    end_job(v, v.regs.reason, own)
 }
 
 // 28 KTRAP k.
-pub(crate) fn ktrap(code: &[u16], r: Regs) -> Out
-    requires { r.address ≤ 16256 }
-    ensures { OnCode result code.now r ktrap }
+#[tactic(auto, using(machine::proofs::Laws::cases), unfolding(machine::specs::Instruction::ktrap))]
+pub(crate) fn ktrap(v: &Sight) -> Result<u16, Fault>
+    ensures { (c q : List ℕ) → traps result c q ≡ ktrap (sees v.now c q) }
 {
-    let at = r.address as usize;
-    if code.len() < at + 2 {
-        return Out::Fault(fault::CODE);
+    let [k] = v.arguments::<1>()?;
+    if v.regs.in_job || 11 < k {
+        return Err(Fault::Code);
     }
-    if r.in_job {
-        return Out::Fault(fault::CODE);
-    }
-    let k = code[at + 1];
-    if k <= 11 {
-        Out::Call(k)
-    } else {
-        Out::Fault(fault::CODE)
-    }
+    Ok(k)
 }

@@ -8,6 +8,7 @@ mod frame;
 mod job;
 mod perform;
 mod place;
+mod sight;
 mod stack;
 
 pub use burst::{Burst, End, run_burst};

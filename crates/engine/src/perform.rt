@@ -1,99 +1,93 @@
 // One instruction: its code's function, and the end of its job where a stop or a fault ends it.
-ghost use Rattle.std.specs.Prelude.{◌≡◌, length};
+ghost use Rattle.std.specs.Prelude.{◌≡◌, ◌&&◌, not, eqb, List, ℕ};
 ghost use Rattle.machine.specs.Instruction.{perform, settled, instruct};
-ghost use Rattle.engine.specs.Did.{seen, did, OnStack, ReadyToEnd};
+ghost use Rattle.engine.specs.Did.{did, went, sees};
 
-use crate::stack::Out;
+use crate::sight::{Common, Own, Sight, Stop};
 use crate::{flow, frame, job, place, stack};
 use machine::Regs;
-use word::fault;
+use word::Fault;
 
-// The instruction of a code word.
-pub(crate) fn perform(
-    op: u16,
-    code: &[u16],
-    floor: u16,
-    holding: bool,
-    r: Regs,
-    common: &mut [u16],
-    own: &mut [u16],
-) -> Out
-    requires { ReadyToEnd floor r × (length common.old ≡ 2048) × (length own.old ≡ 2048) }
-    ensures { did result common.new own.new ≡ perform (seen code.now floor holding r common.old own.old) op }
+// The instruction of a code word: a number, since any other is fault 7. An arm for each of 8 to 19, so that its operation is known: with `8 | 11` and `9..=19`, of a
+// code to be told apart once more, arithmetic took 1.1 times as long.
+#[tactic(auto, using(machine::proofs::Laws::cases), unfolding(machine::specs::Instruction::perform))]
+fn perform(op: u16, v: &Sight, common: &mut Common, own: &mut Own) -> Result<Regs, Stop>
+    ensures { did result common.new own.new ≡ perform (sees v.now common.old own.old) op }
 {
-    match op {
-        0 => stack::newline(code, r),
-        1 => stack::pushconst(code, floor, r, own),
-        2 => place::pushind(floor, r, common, own),
-        3 => place::copyword(floor, r, common, own),
-        4 => stack::localaddr(code, floor, r, own),
-        5 => stack::pop(r),
-        6 => stack::index(code, floor, r, own),
-        7 => stack::range(code, floor, r, own),
-        8 => stack::unary(8, floor, r, own),
-        9 => stack::binary(9, floor, r, own),
-        10 => stack::binary(10, floor, r, own),
-        11 => stack::unary(11, floor, r, own),
-        12 => stack::binary(12, floor, r, own),
-        13 => stack::binary(13, floor, r, own),
-        14 => stack::binary(14, floor, r, own),
-        15 => stack::binary(15, floor, r, own),
-        16 => stack::binary(16, floor, r, own),
-        17 => stack::binary(17, floor, r, own),
-        18 => stack::binary(18, floor, r, own),
-        19 => stack::binary(19, floor, r, own),
-        20 => flow::jump(code, r),
-        21 => flow::falsejump(code, floor, r, own),
-        22 => flow::casejump(code, floor, r, own),
-        23 => frame::call(code, floor, r, own),
-        24 => frame::enter(code, floor, r, own),
-        25 => frame::exit(code, floor, r, own),
-        26 => job::callprog(code, floor, holding, r),
-        27 => job::exitprog(floor, r, own),
-        28 => job::ktrap(code, r),
-        _ => Out::Fault(fault::CODE),
+    let next = match op {
+        0 => stack::newline(v),
+        1 => stack::pushconst(v, own),
+        2 => place::pushind(v, common, own),
+        3 => place::copyword(v, common, own),
+        4 => stack::localaddr(v, own),
+        5 => stack::pop(v),
+        6 => stack::index(v, own),
+        7 => stack::range(v, own),
+        8 => stack::unary(8, v, own),
+        9 => stack::binary(9, v, own),
+        10 => stack::binary(10, v, own),
+        11 => stack::unary(11, v, own),
+        12 => stack::binary(12, v, own),
+        13 => stack::binary(13, v, own),
+        14 => stack::binary(14, v, own),
+        15 => stack::binary(15, v, own),
+        16 => stack::binary(16, v, own),
+        17 => stack::binary(17, v, own),
+        18 => stack::binary(18, v, own),
+        19 => stack::binary(19, v, own),
+        20 => flow::jump(v),
+        21 => flow::falsejump(v, own),
+        22 => flow::casejump(v, own),
+        23 => frame::call(v, own),
+        24 => frame::enter(v, own),
+        25 => frame::exit(v, own),
+        26 => job::callprog(v),
+        27 => job::exitprog(v, own),
+        28 => return Err(Stop::Call(job::ktrap(v)?)),
+        _ => Err(Fault::Code),
+    };
+    went(next)
+}
+
+// A fault in a job ends the job. This, `went`, `end_job` and `exitprog` are inlined first of all: else what a job's end writes
+// keeps the registers of the burst's loop in memory, at 1.3 times the processor's instructions.
+#[inline(always)]
+fn settle(v: &Sight, out: Result<Regs, Stop>, own: &mut Own) -> Result<Regs, Stop>
+    ensures { (c : List ℕ) → did result c own.new ≡ settled (sees v.now c own.old) (did out c own.old).out (did out c own.old) }
+{
+    match out {
+        Err(Stop::Fault(f)) if v.regs.in_job => went(job::end_job(v, f.into(), own)),
+        _ => out,
     }
 }
 
-// A fault in a job ends the job.
-pub(crate) fn settle(floor: u16, r: Regs, out: Out, own: &mut [u16]) -> Out
-    requires { ReadyToEnd floor r × (length own.old ≡ 2048) }
-    ensures { OnStack result floor r own.old own.new (λ v. settled v (did out v.common v.own).out (did out v.common v.own)) }
+// What an instruction that calls no kernel answers.
+#[inline(always)]
+fn went(next: Result<Regs, Fault>) -> Result<Regs, Stop>
+    ensures { (c q : List ℕ) → did result c q ≡ went next c q }
 {
-    match out {
-        Out::Fault(f) => {
-            if r.in_job {
-                job::end_job(floor, r, f, own)
-            } else {
-                out
-            }
-        }
-        Out::Next(_) => out,
-        Out::Call(_) => out,
-    }
+    Ok(next?)
+}
+
+// A stop is taken at a FALSEJUMP, before its faults.
+fn takes_stop(r: Regs, op: u16) -> bool
+    ensures { result ≡ (r.in_job && not (eqb r.reason 0) && eqb op 21) }
+{
+    r.in_job && r.reason != 0 && op == 21
 }
 
 // One instruction of the process: a job may end at it, by a stop, by a fault or by EXITPROG.
-pub(crate) fn instruct(
-    code: &[u16],
-    floor: u16,
-    holding: bool,
-    r: Regs,
-    common: &mut [u16],
-    own: &mut [u16],
-) -> Out
-    requires { ReadyToEnd floor r × (length common.old ≡ 2048) × (length own.old ≡ 2048) }
-    ensures { did result common.new own.new ≡ instruct (seen code.now floor holding r common.old own.old) }
+pub(crate) fn instruct(v: &Sight, common: &mut Common, own: &mut Own) -> Result<Regs, Stop>
+    ensures { did result common.new own.new ≡ instruct (sees v.now common.old own.old) }
 {
-    let at = r.address as usize;
-    if code.len() <= at {
-        return settle(floor, r, Out::Fault(fault::CODE), own);
+    let at = usize::from(v.regs.address);
+    if v.code.len() <= at {
+        return settle(v, Err(Stop::Fault(Fault::Code)), own);
     }
-    let op = code[at];
-    let stops = r.in_job & (r.reason != 0) & (op == 21);
-    if stops {
-        return job::end_job(floor, r, r.reason, own);
+    let op = v.code[at];
+    if takes_stop(v.regs, op) {
+        return went(job::end_job(v, v.regs.reason, own));
     }
-    let out = perform(op, code, floor, holding, r, common, own);
-    settle(floor, r, out, own)
+    let out = perform(op, v, common, own);
+    settle(v, out, own)
 }

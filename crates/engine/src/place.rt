@@ -1,91 +1,71 @@
 // Addresses that a program gives: the one way from them to a word of a store. Codes 2 and 3.
-ghost use Rattle.std.specs.Prelude.{◌≡◌, false, [], ◌≤◌, ◌<◌, length};
+ghost use Rattle.std.specs.Prelude.{◌≡◌, List, ℕ};
 ghost use Rattle.machine.specs.Store.{place_of};
 ghost use Rattle.machine.specs.View.{located};
 ghost use Rattle.machine.specs.Instruction.{pushind, copyword};
-ghost use Rattle.engine.specs.Did.{seen, OnStores, Ready};
+ghost use Rattle.engine.specs.Did.{sees, OnStores};
 ghost use Rattle.engine.specs.Found.{found};
 
-use crate::stack::{Out, moved, replace, wide};
+use crate::sight::{Common, Own, Sight};
 use machine::{Machine, Regs};
-use word::{Answer, fault};
+use word::Fault;
 
-// The place that an address names.
+// Where a named word stands: in the one store or in the other.
 #[derive(Clone, Copy)]
 pub(crate) enum Place {
     Common(usize),
     Own(usize),
-    Nowhere,
 }
 
 // In a job only L to C + p - 1 may be named.
 #[tactic(auto, using(machine::proofs::Laws::cases), unfolding(machine::specs::View::located))]
-pub(crate) fn locate(floor: u16, r: Regs, a: u16) -> Place
-    ensures { found result ≡ located (seen [] floor false r [] []) a }
+pub(crate) fn locate(v: &Sight, a: u16) -> Option<Place>
+    ensures { (c q : List ℕ) → found result ≡ located (sees v.now c q) a }
 {
-    if r.in_job {
-        if a < floor {
-            return Place::Nowhere;
-        }
-        if wide(r.c) + wide(r.p) <= wide(a) {
-            return Place::Nowhere;
-        }
+    let r = v.regs;
+    if r.in_job && (a < v.floor || usize::from(r.c) + usize::from(r.p) <= usize::from(a)) {
+        return None;
     }
     place_of(a)
 }
 
 // The place of an address that may be named.
-fn place_of(a: u16) -> Place
+#[tactic(auto, using(machine::proofs::Laws::cases), unfolding(machine::specs::Store::place_of))]
+fn place_of(a: u16) -> Option<Place>
     ensures { found result ≡ place_of a }
 {
     if a < Machine::OWN {
-        Place::Common(wide(a))
+        Some(Place::Common(usize::from(a)))
     } else if a < Machine::CEILING {
-        Place::Own(wide(a - Machine::OWN))
+        Some(Place::Own(usize::from(a - Machine::OWN)))
     } else {
-        Place::Nowhere
+        None
     }
 }
 
 // 2 PUSHIND: the word that the top address names takes its place.
-pub(crate) fn pushind(floor: u16, r: Regs, common: &[u16], own: &mut [u16]) -> Out
-    requires { Ready floor r × (length common.now ≡ 2048) × (length own.old ≡ 2048) }
-    ensures { OnStores result floor r common.now common.now own.old own.new pushind }
+#[tactic(auto, using(machine::proofs::Laws::cases), unfolding(machine::specs::Instruction::pushind))]
+pub(crate) fn pushind(v: &Sight, common: &Common, own: &mut Own) -> Result<Regs, Fault>
+    ensures { OnStores result v.now common.now common.now own.old own.new pushind }
 {
-    let s = r.s;
-    if r.b < s + 1 {
-        return Out::Fault(fault::CODE);
-    }
-    match locate(floor, r, own[(s - 2048) as usize]) {
-        Place::Common(k) => replace(r, r.address + 1, s, Answer::Word(common[k]), own),
-        Place::Own(k) => {
-            let w = own[k];
-            replace(r, r.address + 1, s, Answer::Word(w), own)
-        }
-        Place::Nowhere => Out::Fault(fault::POINTER),
-    }
+    let [a] = v.words::<1>(own)?;
+    let w = match locate(v, a).ok_or(Fault::Pointer)? {
+        Place::Common(k) => common[k],
+        Place::Own(k) => own[k],
+    };
+    own[usize::from(v.regs.s - Machine::OWN)] = w;
+    Ok(v.at(v.regs.address + 1, v.regs.s))
 }
 
 // 3 COPYWORD: pop a value, then the address where it is stored.
-pub(crate) fn copyword(floor: u16, r: Regs, common: &mut [u16], own: &mut [u16]) -> Out
-    requires { Ready floor r × (length common.old ≡ 2048) × (length own.old ≡ 2048) }
-    ensures { OnStores result floor r common.old common.new own.old own.new copyword }
+#[tactic(auto, using(machine::proofs::Laws::cases), unfolding(machine::specs::Instruction::copyword))]
+pub(crate) fn copyword(v: &Sight, common: &mut Common, own: &mut Own) -> Result<Regs, Fault>
+    ensures { OnStores result v.now common.old common.new own.old own.new copyword }
 {
-    let s = r.s;
-    let t = s + 1;
-    if r.b < s + 2 {
-        return Out::Fault(fault::CODE);
+    let [w, a] = v.words::<2>(own)?;
+    match locate(v, a).ok_or(Fault::Pointer)? {
+        Place::Common(k) => common[k] = w,
+        Place::Own(k) => own[k] = w,
     }
-    let w = own[(s - 2048) as usize];
-    match locate(floor, r, own[(t - 2048) as usize]) {
-        Place::Common(k) => {
-            common[k] = w;
-            Out::Next(moved(r, r.address + 1, s + 2))
-        }
-        Place::Own(k) => {
-            own[k] = w;
-            Out::Next(moved(r, r.address + 1, s + 2))
-        }
-        Place::Nowhere => Out::Fault(fault::POINTER),
-    }
+    Ok(v.at(v.regs.address + 1, v.regs.s + 2))
 }

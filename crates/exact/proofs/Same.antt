@@ -4,17 +4,13 @@ use mathlib.Core.List.{List, [], ◌∷◌}
 use Prim.Native.Nat.{ℕ, suc, ◌-◌}
 use native.Mathlib.Omega.{arith}
 use lib.ListN.{get_or, replicate, set, get_or-replicate}
-use Rattle.word.specs.declared.Answer.{Answer}
-use Rattle.word.specs.declared.Answer.TheVariants.{Word, Fault}
-use Rattle.word.specs.Word.{Reckoned, word, fault, said}
+use Rattle.std.specs.Prelude.{Result, Ok, Err}
+use Rattle.word.specs.declared.Fault.{Fault}
+use Rattle.word.specs.declared.Fault.TheVariants.{Terminated, Overflow, Pointer, Range, Variant, HeapLimit, StackLimit, Code, Gate as NoGate, Limit}
+use Rattle.word.specs.Word.{Reckoned, word, fault, said, number_of as fault_number}
 use Rattle.image.specs.declared.table.Refusal.{Refusal}
 use Rattle.image.specs.declared.table.Refusal.TheVariants.{Length, Block, Head, Count, Fill, Lent, Unsound, Stopped, Done, Short}
-use Rattle.image.specs.declared.table.Check.{Check}
-use Rattle.image.specs.declared.table.Check.TheVariants.{Passed, Failed}
-use Rattle.image.specs.declared.reader.Reading.{Reading}
-use Rattle.image.specs.declared.reader.Reading.TheVariants.{Accepted, Refused}
-use Rattle.image.specs.declared.writer.Writing.{Writing}
-use Rattle.image.specs.declared.writer.Writing.TheVariants.{Written, Refused as Declined}
+use Rattle.image.specs.declared.head.Header.{Header}
 use Rattle.image.specs.Refusal.{Reply, taken, refused, number_of, named, check_says}
 use Rattle.image.specs.Read.{read_says}
 use Rattle.image.specs.Write.{write_says}
@@ -30,13 +26,29 @@ use Rattle.exact.specs.Same.{SameAnswer, SameCheck, SameRead, SameReading, SameW
 one_says : {A B : Type 0} (says : A → B) (back : B → A) → ((a : A) → back (says a) ≡ a) → (r r' : A) (o : B) → says r ≡ o → says r' ≡ o → r ≡ r'
 one_says says back same r r' o e e' = sym (same r) ∙ ap back (e ∙ sym e') ∙ same r'
 
-abbrev answer_of : Reckoned → Answer
-answer_of (word w) = Word w
-answer_of (fault n) = Fault n
+-- the fault of number n in document 01
+abbrev pub fault_of : ℕ → Fault
+fault_of n = get_or (Terminated ∷ Overflow ∷ Pointer ∷ Range ∷ Variant ∷ HeapLimit ∷ StackLimit ∷ Code ∷ NoGate ∷ Limit ∷ []) n Limit
 
-answer_said : (r : Answer) → answer_of (said r) ≡ r
-answer_said (Word w) = refl
-answer_said (Fault n) = refl
+pub fault_said : (f : Fault) → fault_of (fault_number f) ≡ f
+fault_said Terminated = refl
+fault_said Overflow = refl
+fault_said Pointer = refl
+fault_said Range = refl
+fault_said Variant = refl
+fault_said HeapLimit = refl
+fault_said StackLimit = refl
+fault_said Code = refl
+fault_said NoGate = refl
+fault_said Limit = refl
+
+abbrev answer_of : Reckoned → Result ℕ Fault
+answer_of (word w) = Ok w
+answer_of (fault n) = Err (fault_of n)
+
+answer_said : (r : Result ℕ Fault) → answer_of (said r) ≡ r
+answer_said (Ok w) = refl
+answer_said (Err f) = ap Err (fault_said f)
 
 pub same_answer : SameAnswer
 same_answer = one_says said answer_of answer_said
@@ -57,24 +69,28 @@ refusal_said Stopped = refl
 refusal_said Done = refl
 refusal_said Short = refl
 
-abbrev check_of : Reply → Check
-check_of (taken vs) = Passed
-check_of (refused n vs) = Failed (refusal_of n vs)
+abbrev check_of : Reply → Result (Unit {0}) Refusal
+check_of (taken vs) = Ok tt
+check_of (refused n vs) = Err (refusal_of n vs)
 
-check-said : (r : Check) → check_of (check_says r) ≡ r
-check-said Passed = refl
-check-said (Failed r) = ap Failed (refusal_said r)
+check-said : (r : Result (Unit {0}) Refusal) → check_of (check_says r) ≡ r
+check-said (Ok u) = refl
+check-said (Err r) = ap Err (refusal_said r)
 
 pub same_check : SameCheck
 same_check = one_says check_says check_of check-said
 
-abbrev pub read_of : Reply → Reading
-read_of (taken vs) = Accepted (record { edition = get_or vs 0 0; length = get_or vs 1 0; devices = get_or vs 2 0; variables = get_or vs 3 0 })
-read_of (refused n vs) = Refused (refusal_of n vs)
+-- the header of these fields
+abbrev pub header_from : List ℕ → Header
+header_from vs = record { edition = get_or vs 0 0; length = get_or vs 1 0; devices = get_or vs 2 0; variables = get_or vs 3 0 }
 
-pub read_said : (r : Reading) → read_of (read_says r) ≡ r
-read_said (Accepted h) = refl
-read_said (Refused r) = ap Refused (refusal_said r)
+abbrev read_of : Reply → Result Header Refusal
+read_of (taken vs) = Ok (header_from vs)
+read_of (refused n vs) = Err (refusal_of n vs)
+
+read_said : (r : Result Header Refusal) → read_of (read_says r) ≡ r
+read_said (Ok h) = refl
+read_said (Err r) = ap Err (refusal_said r)
 
 pub same_read : SameRead
 same_read = one_says read_says read_of read_said
@@ -82,13 +98,13 @@ same_read = one_says read_says read_of read_said
 pub same-reading : SameReading
 same-reading bytes code r r' after after' (e, a) (e', a') = (same_read r r' _ e e', a ∙ sym a')
 
-abbrev write_of : Reply → Writing
-write_of (taken vs) = Written (get_or vs 0 0)
-write_of (refused n vs) = Declined (refusal_of n vs)
+abbrev write_of : Reply → Result ℕ Refusal
+write_of (taken vs) = Ok (get_or vs 0 0)
+write_of (refused n vs) = Err (refusal_of n vs)
 
-write_said : (r : Writing) → write_of (write_says r) ≡ r
-write_said (Written n) = refl
-write_said (Declined r) = ap Declined (refusal_said r)
+write_said : (r : Result ℕ Refusal) → write_of (write_says r) ≡ r
+write_said (Ok n) = refl
+write_said (Err r) = ap Err (refusal_said r)
 
 pub same-writing : SameWriting
 same-writing h code out r r' after after' (e, a) (e', a') = (one_says write_says write_of write_said r r' _ e e', a ∙ sym a')

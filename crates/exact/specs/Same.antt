@@ -1,11 +1,9 @@
 -- "Show that two outcomes fitting it are equal": over what the code returns, and the contracts as they stand
-use Rattle.std.specs.Prelude.{◌≡◌, Bool, ◌&&◌, List, ℕ, ◌<◌, ltb, length, set}
-use Rattle.word.specs.declared.Answer.{Answer}
+use Rattle.std.specs.Prelude.{◌≡◌, Bool, ◌&&◌, List, Result, ℕ, ◌<◌, ltb, length, set}
+use Rattle.word.specs.declared.Fault.{Fault}
 use Rattle.word.specs.Word.{Reckoned, said}
 use Rattle.image.specs.declared.head.Header.{Header}
-use Rattle.image.specs.declared.table.Check.{Check}
-use Rattle.image.specs.declared.reader.Reading.{Reading}
-use Rattle.image.specs.declared.writer.Writing.{Writing}
+use Rattle.image.specs.declared.table.Refusal.{Refusal}
 use Rattle.image.specs.Refusal.{Reply, check_says}
 use Rattle.image.specs.Read.{read_says, reading, code_after}
 use Rattle.image.specs.Write.{write_says, writing, bytes_after}
@@ -26,33 +24,33 @@ OneFits {A} Fits = (r r' : A) → Fits r → Fits r' → r ≡ r'
 
 -- ---- word: each of its functions answers what a definition says
 abbrev pub SameAnswer : Type 0
-SameAnswer = (r r' : Answer) (o : Reckoned) → said r ≡ o → said r' ≡ o → r ≡ r'
+SameAnswer = (r r' : Result ℕ Fault) (o : Reckoned) → said r ≡ o → said r' ≡ o → r ≡ r'
 
--- ---- image: what `check_room` answers, and what `examine` and `accepted` do
+-- ---- image: what `check_room` and `examine` answer
 abbrev pub SameCheck : Type 0
-SameCheck = (r r' : Check) (o : Reply) → check_says r ≡ o → check_says r' ≡ o → r ≡ r'
+SameCheck = (r r' : Result (Unit {0}) Refusal) (o : Reply) → check_says r ≡ o → check_says r' ≡ o → r ≡ r'
 
 abbrev pub SameRead : Type 0
-SameRead = (r r' : Reading) (o : Reply) → read_says r ≡ o → read_says r' ≡ o → r ≡ r'
+SameRead = (r r' : Result Header Refusal) (o : Reply) → read_says r ≡ o → read_says r' ≡ o → r ≡ r'
 
 -- reading: the answer and the code buffer after it
-abbrev pub FitsReading : List ℕ → List ℕ → Reading → List ℕ → Type 0
+abbrev pub FitsReading : List ℕ → List ℕ → Result Header Refusal → List ℕ → Type 0
 FitsReading bytes code r after = (read_says r ≡ reading bytes (length code)) × (after ≡ code_after bytes code)
 
 abbrev pub SameReading : Type 0
 SameReading =
-    (bytes code : List ℕ) (r r' : Reading) (after after' : List ℕ)
+    (bytes code : List ℕ) (r r' : Result Header Refusal) (after after' : List ℕ)
     → FitsReading bytes code r after
     → FitsReading bytes code r' after'
     → (r ≡ r') × (after ≡ after')
 
 -- writing: the answer and the output after it
-abbrev pub FitsWriting : Header → List ℕ → List ℕ → Writing → List ℕ → Type 0
+abbrev pub FitsWriting : Header → List ℕ → List ℕ → Result ℕ Refusal → List ℕ → Type 0
 FitsWriting h code out r after = (write_says r ≡ writing h (length code) (length out)) × (after ≡ bytes_after h code out)
 
 abbrev pub SameWriting : Type 0
 SameWriting =
-    (h : Header) (code out : List ℕ) (r r' : Writing) (after after' : List ℕ)
+    (h : Header) (code out : List ℕ) (r r' : Result ℕ Refusal) (after after' : List ℕ)
     → FitsWriting h code out r after
     → FitsWriting h code out r' after'
     → (r ≡ r') × (after ≡ after')

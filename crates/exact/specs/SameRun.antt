@@ -1,6 +1,7 @@
 -- Two outcomes that fit the contract of a burst, of an offer or of loading are equal: what the code returns, and what it leaves in
 -- the slices that it is lent
-use Rattle.std.specs.Prelude.{◌≡◌, List, ℕ}
+use Rattle.std.specs.Prelude.{◌≡◌, List, Result, ℕ}
+use Rattle.image.specs.declared.table.Refusal.{Refusal}
 use Rattle.engine.specs.declared.burst.Burst.{Burst}
 use Rattle.engine.specs.Burst.{Bursted, burst_says}
 use Rattle.run.specs.declared.answer.Offered.{Offered}
@@ -27,7 +28,7 @@ SameOffered =
 -- loading, with the code buffer and both stores after it
 abbrev pub SameLoaded : Type 0
 SameLoaded =
-    (o : LoadOutcome) (r r' : Loaded) (code code' common common' private private' : List ℕ)
+    (o : LoadOutcome) (r r' : Result Loaded Refusal) (code code' common common' private private' : List ℕ)
     → load_gives r code common private ≡ o
     → load_gives r' code' common' private' ≡ o
     → (r ≡ r') × (code ≡ code') × (common ≡ common') × (private ≡ private')

@@ -1,7 +1,7 @@
 -- Reading an image: what it answers, and what the code buffer then holds
-use Rattle.std.specs.Prelude.{ℕ, ◌+◌, ◌-◌, ◌*◌, ◌/◌, ◌%◌, Bool, not, ◌&&◌, ◌||◌, List, [], ◌∷◌, length, ◌==◌, nat_eq, nat_le, nat_lt}
-use Rattle.image.specs.declared.reader.Reading.{Reading}
-use Rattle.image.specs.declared.reader.Reading.TheVariants.{Accepted, Refused}
+use Rattle.std.specs.Prelude.{ℕ, ◌+◌, ◌-◌, ◌*◌, ◌/◌, ◌%◌, Bool, not, ◌&&◌, ◌||◌, List, [], ◌∷◌, length, ◌==◌, nat_eq, nat_le, nat_lt, Result, Ok, Err}
+use Rattle.image.specs.declared.head.Header.{Header}
+use Rattle.image.specs.declared.table.Refusal.{Refusal}
 use Rattle.notation.specs.If.{if}
 use Rattle.notation.specs.Upto.{all_to, list_to, laid, first_to}
 use Rattle.image.specs.Refusal.{Reply, taken, refused, ◌then◌, refused_by}
@@ -65,9 +65,9 @@ abbrev pub reading : List ℕ → ℕ → Reply
 reading bytes room = checks bytes (taken []) room then taken (fields (header_of bytes))
 
 -- the cases of the code's answer
-abbrev pub read_says : Reading → Reply
-read_says (Accepted h) = taken (fields h)
-read_says (Refused r) = refused_by r
+abbrev pub read_says : Result Header Refusal → Reply
+read_says (Ok h) = taken (fields h)
+read_says (Err r) = refused_by r
 
 -- "touches only the first n": the code over the buffer, where the image has it and the buffer has room
 unfoldable pub copied : List ℕ → ℕ → List ℕ → List ℕ

@@ -1,9 +1,7 @@
 -- Document 01's table of refusals, and what an offer is answered
-use Rattle.std.specs.Prelude.{ℕ, List, [], ◌∷◌}
+use Rattle.std.specs.Prelude.{ℕ, List, [], ◌∷◌, Result, Ok, Err}
 use Rattle.image.specs.declared.table.Refusal.{Refusal}
 use Rattle.image.specs.declared.table.Refusal.TheVariants.{Length, Block, Head, Count, Fill, Lent, Unsound, Stopped, Done, Short}
-use Rattle.image.specs.declared.table.Check.{Check}
-use Rattle.image.specs.declared.table.Check.TheVariants.{Passed, Failed}
 
 infixr 30 ◌then◌
 -- an offer is taken, or refused by its number; with the values that the answer names
@@ -44,6 +42,7 @@ named Short = []
 abbrev pub refused_by : Refusal → Reply
 refused_by r = refused (number_of r) (named r)
 
-abbrev pub check_says : Check → Reply
-check_says Passed = taken []
-check_says (Failed r) = refused_by r
+-- what a check answers: passed, it names nothing
+abbrev pub check_says : Result (Unit {0}) Refusal → Reply
+check_says (Ok u) = taken []
+check_says (Err r) = refused_by r

@@ -1,8 +1,7 @@
 -- Writing an image: the one image of a header and code, what writing answers, and what the output then holds
-use Rattle.std.specs.Prelude.{ℕ, ◌+◌, ◌-◌, ◌*◌, ◌/◌, ◌%◌, not, List, [], ◌∷◌, length, ◌==◌, slice_index}
+use Rattle.std.specs.Prelude.{ℕ, ◌+◌, ◌-◌, ◌*◌, ◌/◌, ◌%◌, not, List, [], ◌∷◌, length, ◌==◌, slice_index, Result, Ok, Err}
 use Rattle.image.specs.declared.head.Header.{Header}
-use Rattle.image.specs.declared.writer.Writing.{Writing}
-use Rattle.image.specs.declared.writer.Writing.TheVariants.{Written, Refused}
+use Rattle.image.specs.declared.table.Refusal.{Refusal}
 use Rattle.notation.specs.If.{if}
 use Rattle.notation.specs.Upto.{sum_to, list_to, laid}
 use Rattle.image.specs.Refusal.{Reply, taken, ◌then◌, refused_by}
@@ -52,9 +51,9 @@ abbrev pub writing : Header → ℕ → ℕ → Reply
 writing h words room = write_checks h words room then taken (image_length h.length ∷ [])
 
 -- the cases of the code's answer
-abbrev pub write_says : Writing → Reply
-write_says (Written n) = taken (n ∷ [])
-write_says (Refused r) = refused_by r
+abbrev pub write_says : Result ℕ Refusal → Reply
+write_says (Ok n) = taken (n ∷ [])
+write_says (Err r) = refused_by r
 
 -- "touches only the image's bytes"; a refusal changes nothing
 abbrev pub bytes_after : Header → List ℕ → List ℕ → List ℕ

@@ -1,5 +1,6 @@
 // One block: 512 bytes, 256 little-endian words.
-ghost use Rattle.std.specs.Prelude.{◌≡◌, ◌+◌, ◌*◌, ◌/◌, ◌%◌, ◌<◌, length, slice_set};
+ghost use Rattle.std.specs.Prelude.{◌≡◌, ◌+◌, ◌*◌, ◌/◌, ◌%◌, ◌<◌, ◌==◌, length, slice_set};
+ghost use Rattle.std.specs.List.{list_all};
 ghost use Rattle.notation.specs.Upto.{sum_to};
 ghost use Rattle.image.specs.Block.{word_at, good_block};
 
@@ -18,18 +19,12 @@ pub(crate) const SUM: u16 = 65535;
 // A block is eight strips of so many words.
 const STRIP: usize = WORDS / 8;
 
-fn wide(x: u8) -> u16
-    ensures { (result ≡ x) × (result < 256) }
-{
-    x as u16
-}
-
 // Word k of the bytes.
 pub(crate) fn word(bytes: &[u8], k: usize) -> u16
     requires { 2 * k + 1 < length bytes.now }
     ensures { result ≡ word_at bytes.now k }
 {
-    wide(bytes[2 * k]) + wide(bytes[2 * k + 1]) * 256
+    u16::from_le_bytes([bytes[2 * k], bytes[2 * k + 1]])
 }
 
 // Word k of the bytes becomes w.
@@ -37,31 +32,41 @@ pub(crate) fn put_word(bytes: &mut [u8], k: usize, w: u16)
     requires { 2 * k + 1 < length bytes.old }
     ensures { bytes.new ≡ slice_set (slice_set bytes.old (2 * k) (w % 256)) (2 * k + 1) (w / 256) }
 {
-    bytes[2 * k] = (w % 256) as u8;
-    bytes[2 * k + 1] = (w / 256) as u8;
+    let [low, high] = w.to_le_bytes();
+    bytes[2 * k] = low;
+    bytes[2 * k + 1] = high;
 }
 
-// Word k of each of the eight strips, added to s as it wraps.
-fn add_eight(s: u16, block: &[u8], k: usize) -> u16
-    requires { (length block.now ≡ 512) × (k < 32) }
+// All of the bytes are zero: none has a bit. Tried with `all`, which the compiler makes no vectors of: a check of an image then took 1.2
+// times the instructions.
+pub(crate) fn are_zero(bytes: &[u8]) -> bool
+    ensures { result ≡ list_all (λ b. b == 0) bytes.now }
+{
+    bytes.iter().fold(0, |bits, b| bits | b) == 0
+}
+
+// Word k of each of the eight strips, added to s as it wraps. Written out so that the turns become vectors: docs/PERFORMANCE.md, "Images".
+fn add_eight(s: u16, block: &[u8; BYTES], k: usize) -> u16
+    requires { k < 32 }
     ensures { result ≡ (s + sum_to (λ j. word_at block.now (32 * j + k)) 8) % 65536 }
 {
-    let a = std::num::wrapping_add_u16(s, word(block, k));
-    let b = std::num::wrapping_add_u16(a, word(block, STRIP + k));
-    let c = std::num::wrapping_add_u16(b, word(block, 2 * STRIP + k));
-    let d = std::num::wrapping_add_u16(c, word(block, 3 * STRIP + k));
-    let e = std::num::wrapping_add_u16(d, word(block, 4 * STRIP + k));
-    let f = std::num::wrapping_add_u16(e, word(block, 5 * STRIP + k));
-    let g = std::num::wrapping_add_u16(f, word(block, 6 * STRIP + k));
-    std::num::wrapping_add_u16(g, word(block, 7 * STRIP + k))
+    s.wrapping_add(word(block, k))
+        .wrapping_add(word(block, STRIP + k))
+        .wrapping_add(word(block, 2 * STRIP + k))
+        .wrapping_add(word(block, 3 * STRIP + k))
+        .wrapping_add(word(block, 4 * STRIP + k))
+        .wrapping_add(word(block, 5 * STRIP + k))
+        .wrapping_add(word(block, 6 * STRIP + k))
+        .wrapping_add(word(block, 7 * STRIP + k))
 }
 
-// The wrapping sum of a block's words, eight a turn: by strips, so that the compiler can make vectors of the turns.
-pub(crate) fn sum(block: &[u8]) -> u16
-    requires { length block.now ≡ 512 }
+// The wrapping sum of a block's words, eight a turn: by strips, so that the compiler can make vectors of the turns; k is the place
+// in each strip.
+#[tactic(auto, using(crate::proofs::Laws::sum_more, notation::proofs::Upto::sum_strips), unfolding(notation::specs::Upto::sum_to))]
+pub(crate) fn sum(block: &[u8; BYTES]) -> u16
     ensures { result ≡ sum_to (word_at block.now) 256 % 65536 }
 {
-    let mut s: u16 = 0;
+    let mut s = 0;
     for k in 0..STRIP {
         s = add_eight(s, block, k);
     }
@@ -69,11 +74,9 @@ pub(crate) fn sum(block: &[u8]) -> u16
 }
 
 // The check of one block that should have this number.
-pub(crate) fn is_good(block: &[u8], number: usize) -> bool
-    requires { length block.now ≡ 512 }
+#[tactic(auto, using(crate::proofs::Laws::cases), unfolding(crate::specs::Block::good_block))]
+pub(crate) fn is_good(block: &[u8; BYTES], number: usize) -> bool
     ensures { result ≡ good_block block.now number }
 {
-    let total = sum(block);
-    let own = word(block, 0) as usize;
-    (total == SUM) & (own == number)
+    sum(block) == SUM && usize::from(word(block, 0)) == number
 }

@@ -1,15 +1,10 @@
 // The header of an image, and what it says of the image's size.
 ghost use Rattle.std.specs.Prelude.{◌≡◌, ◌≤◌, length};
-ghost use Rattle.image.specs.Header.{good_header, header_of, rest_zero, code_blocks};
+ghost use Rattle.image.specs.Header.{good_header, header_of, code_blocks};
 
-use crate::block::{CONTENT, word};
+use crate::block::{self, word};
 
-// The zeros after the header's four fields: where they begin in block 0, and how many there are.
-const REST_AT: usize = 5;
-
-const REST: usize = CONTENT - 4;
-
-const ROUND_UP: usize = CONTENT - 1;
+const CONTENT: u16 = block::CONTENT as u16;
 
 #[derive(Clone, Copy)]
 pub struct Header {
@@ -27,49 +22,35 @@ impl Header {
     pub const ALL_DEVICES: u16 = 31;
 
     pub const MOST_VARIABLES: u16 = 1024;
-}
 
-// Each field in its range.
-pub(crate) fn is_good(h: Header) -> bool
-    ensures { result ≡ good_header h }
-{
-    (h.edition == Header::EDITION)
-        & (1 <= h.length)
-        & (h.length <= Header::MOST_LENGTH)
-        & (h.devices <= Header::ALL_DEVICES)
-        & (h.variables <= Header::MOST_VARIABLES)
-}
-
-// The header that stands in block 0.
-pub(crate) fn read(image: &[u8]) -> Header
-    requires { 512 ≤ length image.now }
-    ensures { result ≡ header_of image.now }
-{
-    Header {
-        edition: word(image, 1),
-        length: word(image, 2),
-        devices: word(image, 3),
-        variables: word(image, 4),
+    // Each field in its range.
+    pub(crate) fn is_good(self) -> bool
+        ensures { result ≡ good_header self }
+    {
+        self.edition == Header::EDITION
+            && 1 <= self.length
+            && self.length <= Header::MOST_LENGTH
+            && self.devices <= Header::ALL_DEVICES
+            && self.variables <= Header::MOST_VARIABLES
     }
-}
 
-// Block 0 has zeros after the header's fields.
-pub(crate) fn rest_is_zero(image: &[u8]) -> bool
-    requires { 512 ≤ length image.now }
-    ensures { result ≡ rest_zero image.now }
-{
-    let mut ok = true;
-    for k in 0..REST {
-        let w = word(image, REST_AT + k);
-        ok = ok & (w == 0);
+    // The header that stands in block 0.
+    pub(crate) fn of(image: &[u8]) -> Header
+        requires { 512 ≤ length image.now }
+        ensures { result ≡ header_of image.now }
+    {
+        Header {
+            edition: word(image, 1),
+            length: word(image, 2),
+            devices: word(image, 3),
+            variables: word(image, 4),
+        }
     }
-    ok
 }
 
 // n / 254 rounded up: the blocks that n words of code fill.
-pub(crate) fn code_blocks(n: usize) -> usize
-    requires { n ≤ 65535 }
+pub(crate) fn code_blocks(n: u16) -> u16
     ensures { result ≡ code_blocks n }
 {
-    (n + ROUND_UP) / CONTENT
+    n.div_ceil(CONTENT)
 }

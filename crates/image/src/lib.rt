@@ -8,6 +8,6 @@ mod table;
 mod writer;
 
 pub use head::Header;
-pub use reader::{Reading, accepted, check_room, copy_code, examine, read};
-pub use table::{Check, Refusal, number};
-pub use writer::{Writing, write};
+pub use reader::{check_room, copy_code, examine, read};
+pub use table::Refusal;
+pub use writer::write;

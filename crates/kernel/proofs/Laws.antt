@@ -1,74 +1,38 @@
--- Why the code's tests are those of the definitions
+-- Why a call ends as the definitions have it
 use mathlib.Core.Path.{◌≡◌, refl, sym, ap, ◌∙◌}
 use mathlib.Core.Bool.{Bool, true, false, and-false}
 use mathlib.Core.List.{List}
-use Prim.Native.Nat.{ℕ, ◌+◌, ◌-◌, ◌≤◌, ◌<◌}
+use Prim.Native.Nat.{ℕ, ◌+◌, ◌≤◌, ◌<◌}
 use native.Mathlib.Omega.{arith}
 use lib.Dec.{leb, ltb, eqb}
-use lib.ListN.{length, set}
+use lib.ListN.{length, get_or, set}
 use lib.Seq.{get_or-set_same, set-get_or}
-use borrow.Author.Tests.{leb-true, lt-ltb, le-ltb, le-leb, lt-leb, eq-eqb, ne_eqb}
-use borrow.Author.Rules.{rules}
+use borrow.Author.Tests.{lt-ltb, le-ltb, le-leb, lt-leb}
+use Rattle.std.specs.Prelude.{Result, Ok, Err}
+use Rattle.std.specs.Result.{IsErrAnd}
+use Rattle.std.proofs.lemmas.Result.{err_from_is_err_and}
 use Rattle.notation.specs.If.{if}
 use Rattle.notation.proofs.Upto.{split, never, below?}
+use Rattle.notation.proofs.Cells.{set_keeps}
+use Rattle.word.specs.declared.Fault.{Fault}
+use Rattle.word.specs.declared.Fault.TheVariants.{StackLimit, Code, Gate}
+use Rattle.word.specs.Word.{number_of}
 use Rattle.machine.specs.declared.Regs.{Regs}
 use Rattle.machine.specs.declared.Process.{Process}
 use Rattle.machine.specs.declared.Machine.{Machine}
-use Rattle.machine.specs.State.{no_process, proc, timed, with_process}
-use Rattle.machine.specs.Gate.{grant, enter, leave, delay, continue, make_gate, may_enter, may_leave, may_continue, may_delay}
-use Rattle.machine.specs.Store.{World, own}
-use Rattle.machine.specs.Clock.{clock_wait}
-use Rattle.machine.specs.Call.{stack_word, passed, call0, call1, call2, finish, call4, stop_answer, stop_job, call5, call6, call7, call8, call9, call10}
-use Rattle.machine.specs.Step.{onward, stopped}
+use Rattle.machine.specs.State.{no_process, proc, with_process}
+use Rattle.machine.specs.Gate.{grant, make_gate, may_enter, may_leave, may_continue, may_delay}
+use Rattle.machine.specs.Store.{own}
+use Rattle.machine.specs.Call.{Called, on, stops, stack_word, passed, with_top, on_gate, on_cell, stop_answer, stop_job}
+use Rattle.machine.specs.Step.{onward}
 use Rattle.machine.proofs.Registers.{make_regs}
+use Rattle.kernel.specs.declared.answer.Act.{Act}
+use Rattle.kernel.specs.declared.answer.Decision.{Decision}
 use Rattle.kernel.specs.declared.caller.Caller.{Caller}
-use Rattle.kernel.specs.Did.{Able, caller_of, world, Outcome, outcome}
-use Rattle.notation.proofs.Cells.{set_keeps}
+use Rattle.kernel.specs.Did.{Told, Words, world, performed, end_of, outcome, decided, gone, answered}
 
-pub ruleset cases = (rules, lt-ltb, le-ltb, le-leb, lt-leb, eq-eqb, ne_eqb)
-
--- ---- the caller's stack
 abbrev pub regs : Machine → Regs
 regs m = (proc m m.running).regs
-
--- k words are there
-pub record Words (who : Caller) (k : ℕ) : Type 0 where
-  pub runs : who.number < 10
-  pub low : 2048 ≤ who.process.regs.s
-  pub words : who.process.regs.s + k ≤ who.process.regs.b
-  pub high : who.process.regs.b ≤ 4096
-
--- a word more has room
-pub record Room (who : Caller) : Type 0 where
-  pub runs : who.number < 10
-  pub room : 2048 + who.process.variables + 1 ≤ who.process.regs.s
-  pub high : who.process.regs.s ≤ 4096
-
--- ---- what the tests of the caller tell
-pub words_there : (who : Caller) (k : ℕ) (x : Bool) → Able who → x ≡ leb (who.process.regs.s + k) who.process.regs.b → x ≡ true → Words who k
-words_there who k x ok f t =
-    record {
-      runs = ok.runs;
-      low = ok.low;
-      words = leb-true (who.process.regs.s + k) who.process.regs.b (sym f ∙ t);
-      high = ok.high;
-    }
-
-pub room_there : (who : Caller) (x : Bool) → Able who → x ≡ leb (2048 + who.process.variables + 1) who.process.regs.s → x ≡ true → Room who
-room_there who x ok f t =
-    record {
-      runs = ok.runs;
-      room = leb-true (2048 + who.process.variables + 1) who.process.regs.s (sym f ∙ t);
-      high = omega (arith, ok.framed, ok.high);
-    }
-
-module _ (m : Machine) (who : Caller) where
-  -- the tests as the definitions have them
-  pub has_words_lem : (k : ℕ) (x y : Bool) → who ≡ caller_of m → x ≡ leb (who.process.regs.s + k) who.process.regs.b → x ≡ y → leb ((regs m).s + k) (regs m).b ≡ y
-  has_words_lem k x y e f t = rw e at (sym f ∙ t)
-
-  pub has_room_lem : (x y : Bool) → who ≡ caller_of m → x ≡ leb (2048 + who.process.variables + 1) who.process.regs.s → x ≡ y → leb (2048 + (proc m m.running).variables + 1) (regs m).s ≡ y
-  has_room_lem x y e f t = rw e at (sym f ∙ t)
 
 -- ---- a word as a number of a gate or a cell
 abbrev pub narrow : ℕ → ℕ
@@ -112,10 +76,12 @@ pub delay_cell_out : (m : Machine) (g y : ℕ) → 255 ≤ y → may_delay m g y
 unfolding may_delay
 delay_cell_out m g y l = rw (continue_cell_out m g y l)
 
--- ---- the top of the caller's stack after a move
-abbrev top : Machine → ℕ
-top m = (proc m m.running).regs.s
+-- a decision to stop leaves the caller's record as it is
+pub same_process : (m : Machine) → with_process m m.running (proc m m.running) ≡ m
+unfolding with_process
+same_process m = rw (set-get_or m.processes m.running no_process)
 
+-- ---- the top of the caller's stack after a move
 passed_running : (m : Machine) (s : ℕ) → (passed m s).running ≡ m.running
 unfolding passed with_process
 passed_running m s = refl
@@ -139,172 +105,121 @@ make_running : (m : Machine) → (make_gate m).running ≡ m.running
 unfolding make_gate grant
 make_running m = refl
 
--- ---- what each call does, from what the code knows when it returns
-abbrev going : Machine → List ℕ → List ℕ → Outcome
-going m c q = record { machine = m; common = c; private = q; end = onward }
+-- ---- a call ends with a fault, or goes past KTRAP; what its tests tell of the definition's
+module _ {m : Machine} {who : Caller} (t : Told who m) where
+  pub stops_at : {c q : List ℕ} {x : Called} (f : Fault) → x ≡ stops (number_of f) → decided m (answered who (Err f)) c q ≡ outcome (world m c q) x
+  stops_at f e = rw (e, t.caller, same_process m)
 
-abbrev pub stopping : Machine → ℕ → List ℕ → List ℕ → Outcome
-stopping m f c q =
-    record { machine = timed m f (regs m).line m.seconds m.fraction; common = c; private = q; end = stopped }
+  -- at the exit of a ?
+  exits : {c q : List ℕ} {x : Called} {e : Fault} (r : Result Decision Fault) (f : Fault) → IsErrAnd r (λ y. y ≡ e) → e ≡ f → x ≡ stops (number_of f)
+      → decided m (answered who r) c q ≡ outcome (world m c q) x
+  exits r f h a b = let p = err_from_is_err_and r h in rw (p.1, p.2, a) (stops_at f b)
 
--- a decision to stop leaves the caller's record as it is
-pub same_process : (m : Machine) → with_process m m.running (proc m m.running) ≡ m
-unfolding with_process
-same_process m = rw (set-get_or m.processes m.running no_process)
+  pub goes_at : (c q : List ℕ) (s : ℕ) (act : Act) → decided m (gone who s act) c q ≡ record { machine = performed (passed m s) act; common = c; private = q; end = end_of act }
+  unfolding passed
+  goes_at c q s act = rw t.caller
 
-module _ (m : Machine) (c q : List ℕ) where
-  abbrev w : World
-  w = world m c q
+  -- k words are there, or not; a word more has room, or not
+  pub enough : (k : ℕ) {x : Called} → who.process.regs.s + k ≤ who.process.regs.b → if (leb ((regs m).s + k) (regs m).b) x (stops 7) ≡ x
+  enough k h = let n : (regs m).s + k ≤ (regs m).b = rw t.caller at h in rw (le-leb _ _ n)
 
-  pub call0-goes : going (clock_wait (passed m (regs m).s)) c q ≡ outcome w (call0 w)
-  unfolding call0
-  call0-goes = let z : (regs m).s + 0 ≡ (regs m).s = omega arith in rw z
+  pub too_few : (k : ℕ) (x : Called) {c q : List ℕ} {e : Fault} (r : Result Decision Fault) → IsErrAnd r (λ y. y ≡ e) → (who.process.regs.b < who.process.regs.s + k) × (e ≡ Code)
+      → decided m (answered who r) c q ≡ outcome (world m c q) (if (leb ((regs m).s + k) (regs m).b) x (stops 7))
+  too_few k x r h (b, f) =
+      let n : (regs m).b < (regs m).s + k = rw t.caller at b in
+      let z : if (leb ((regs m).s + k) (regs m).b) x (stops 7) ≡ stops 7 = rw (lt-leb _ _ n) in
+      exits r Code h f z
 
-  pub call2-stops : leb ((regs m).s + 1) (regs m).b ≡ true → leb (stack_word w 0) 6 ≡ true → stopping m (stack_word w 0) c q ≡ outcome w (call2 w)
-  unfolding call2
-  call2-stops e f = rw (e, f)
+  pub roomy : {x : Called} → 2048 + who.process.variables + 1 ≤ who.process.regs.s → if (leb (2048 + (proc m m.running).variables + 1) (regs m).s) x (stops 6) ≡ x
+  roomy h = let n : 2048 + (proc m m.running).variables + 1 ≤ (regs m).s = rw t.caller at h in rw (le-leb _ _ n)
 
-  pub call2_other : leb ((regs m).s + 1) (regs m).b ≡ true → leb (stack_word w 0) 6 ≡ false → stopping m 7 c q ≡ outcome w (call2 w)
-  unfolding call2
-  call2_other e f = rw (e, f)
+  pub full : (x : Called) {c q : List ℕ} {e : Fault} (r : Result Decision Fault) → IsErrAnd r (λ y. y ≡ e) → who.process.regs.s < 2048 + who.process.variables + 1 → e ≡ StackLimit
+      → decided m (answered who r) c q ≡ outcome (world m c q) (if (leb (2048 + (proc m m.running).variables + 1) (regs m).s) x (stops 6))
+  full x r h b f =
+      let n : (regs m).s < 2048 + (proc m m.running).variables + 1 = rw t.caller at b in
+      let z : if (leb (2048 + (proc m m.running).variables + 1) (regs m).s) x (stops 6) ≡ stops 6 = rw (lt-leb _ _ n) in
+      exits r StackLimit h f z
 
-  pub call2-few : leb ((regs m).s + 1) (regs m).b ≡ false → stopping m 7 c q ≡ outcome w (call2 w)
-  unfolding call2
-  call2-few e = rw e
-
-  pub call4-holds : ltb 0 (proc m m.running).holds ≡ true → stopping m 8 c q ≡ outcome w (call4 w)
-  unfolding call4
-  call4-holds e = rw e
-
-  pub call4-ends : ltb 0 (proc m m.running).holds ≡ false → going (finish (passed m (regs m).s)) c q ≡ outcome w (call4 w)
-  unfolding call4
-  call4-ends e = let z : (regs m).s + 0 ≡ (regs m).s = omega arith in rw (e, z)
-
-  -- ---- calls 1, 5 and 10 push a word
-  module _ (long : m.running < length m.processes) where
-    pub call1-goes : leb (2048 + (proc m m.running).variables + 1) (regs m).s ≡ true
-        → going (passed m ((regs m).s - 1)) c (set q (own m.running ((regs m).s - 1)) m.seconds) ≡ outcome w (call1 w)
-    unfolding call1
-    call1-goes e = rw (e, passed_running m ((regs m).s - 1), passed-top m ((regs m).s - 1) long)
-
-    pub call5-goes : leb ((regs m).s + 2) (regs m).b ≡ true
-        → going (stop_job (passed m ((regs m).s + 1)) (stack_word w 1) (stack_word w 0)) c (set q (own m.running ((regs m).s + 1)) (stop_answer m (stack_word w 1) (stack_word w 0))) ≡ outcome w (call5 w)
-    unfolding call5
-    call5-goes e =
-        let n : Machine = passed m ((regs m).s + 1) in
-        let z = stop_running n (stack_word w 1) (stack_word w 0) ∙ passed_running m ((regs m).s + 1) in
-        rw (e, z, stop_top n (stack_word w 1) (stack_word w 0) m.running, passed-top m ((regs m).s + 1) long)
-
-    pub call10-goes : leb 25 m.made ≡ false → leb 8 (proc m m.running).holds ≡ false → leb (2048 + (proc m m.running).variables + 1) (regs m).s ≡ true
-        → going (make_gate (passed m ((regs m).s - 1))) c (set q (own m.running ((regs m).s - 1)) m.made) ≡ outcome w (call10 w)
-    unfolding call10
-    call10-goes f g e =
-        let n : Machine = passed m ((regs m).s - 1) in
-        let z = make_running n ∙ passed_running m ((regs m).s - 1) in
-        let t = ap (λ (r : Regs). r.s) (make_regs n m.running) ∙ passed-top m ((regs m).s - 1) long in
-        rw (f, g, e, z, t)
-
-  pub call1_full : leb (2048 + (proc m m.running).variables + 1) (regs m).s ≡ false → stopping m 6 c q ≡ outcome w (call1 w)
-  unfolding call1
-  call1_full e = rw e
-
-  pub call5-few : leb ((regs m).s + 2) (regs m).b ≡ false → stopping m 7 c q ≡ outcome w (call5 w)
-  unfolding call5
-  call5-few e = rw e
-
-  pub call10_limit : leb 25 m.made ≡ true → stopping m 9 c q ≡ outcome w (call10 w)
-  unfolding call10
-  call10_limit f = rw f
-
-  pub call10_ninth : leb 25 m.made ≡ false → leb 8 (proc m m.running).holds ≡ true → stopping m 8 c q ≡ outcome w (call10 w)
-  unfolding call10
-  call10_ninth f g = rw (f, g)
-
-  pub call10_full : leb 25 m.made ≡ false → leb 8 (proc m m.running).holds ≡ false → leb (2048 + (proc m m.running).variables + 1) (regs m).s ≡ false → stopping m 6 c q ≡ outcome w (call10 w)
-  unfolding call10
-  call10_full f g e = rw (f, g, e)
+  pub word_is : (c : List ℕ) {q l : List ℕ} {k : ℕ} → Words who k q l → (j : ℕ) → j < k → get_or l j 0 ≡ stack_word (world m c q) j
+  word_is c h j i = rw t.caller at (h.each j i)
 
   -- ---- calls 6 and 7 on a gate, 8 and 9 on a cell: the word, as the number that the code makes of it
-  pub call6-goes : (g : ℕ) → leb ((regs m).s + 1) (regs m).b ≡ true → g ≡ narrow (stack_word w 0) → m.made ≤ 25 → may_enter m g ≡ true
-      → going (enter (passed m ((regs m).s + 1)) g) c q ≡ outcome w (call6 w)
-  unfolding call6
-  call6-goes g e n few f =
-      let t = rw n at f in
-      let z = narrow_exact (λ y. may_enter m y) (enter-out m few) (stack_word w 0) t in
-      let u = rw z at t in
-      rw (e, u, n, z)
+  -- the move is made, or it is fault 8
+  made : (c q : List ℕ) {r : Result Decision Fault} (b : Bool) (a : Act) (s : ℕ) {x : Called} → r ≡ if b (Ok (gone who s a)) (Err Gate)
+      → (b ≡ true → record { machine = performed (passed m s) a; common = c; private = q; end = end_of a } ≡ outcome (world m c q) x)
+      → (b ≡ false → x ≡ stops 8)
+      → decided m (answered who r) c q ≡ outcome (world m c q) x
+  made c q true a s e f g = rw e (goes_at c q s a ∙ f refl)
+  made c q false a s e f g = rw e (stops_at Gate (g refl))
 
-  pub call6-gate : (g : ℕ) → leb ((regs m).s + 1) (regs m).b ≡ true → g ≡ narrow (stack_word w 0) → m.made ≤ 25 → may_enter m g ≡ false → stopping m 8 c q ≡ outcome w (call6 w)
-  unfolding call6
-  call6-gate g e n few f =
-      let u = sym (narrow_test (λ y. may_enter m y) (enter-out m few) (stack_word w 0)) ∙ rw n at f in
-      rw (e, u)
+  module _ (may : Machine → ℕ → Bool) (act : Machine → ℕ → Machine) (out : (y : ℕ) → 255 ≤ y → may m y ≡ false) where
+    gate_goes : (c : List ℕ) {q l : List ℕ} (g : ℕ) → Words who 1 q l → g ≡ narrow (get_or l 0 0) → may m g ≡ true
+        → record { machine = act (passed m (who.process.regs.s + 1)) g; common = c; private = q; end = onward } ≡ outcome (world m c q) (on_gate (world m c q) may act)
+    gate_goes c {q} {l} g h n f =
+        let a = rw n at f in
+        let z = narrow_exact (may m) out (get_or l 0 0) a in
+        let u = rw z at a in
+        rw (enough 1 h.there, ← word_is c h 0 (omega arith), u, n, z, t.caller)
 
-  pub call6-few : leb ((regs m).s + 1) (regs m).b ≡ false → stopping m 7 c q ≡ outcome w (call6 w)
-  unfolding call6
-  call6-few e = rw e
+    gate_stops : (c : List ℕ) {q l : List ℕ} (g : ℕ) → Words who 1 q l → g ≡ narrow (get_or l 0 0) → may m g ≡ false → on_gate (world m c q) may act ≡ stops 8
+    gate_stops c {q} {l} g h n f =
+        let u = sym (narrow_test (may m) out (get_or l 0 0)) ∙ rw n at f in
+        rw (enough 1 h.there, ← word_is c h 0 (omega arith), u)
 
-  pub call7-goes : (g : ℕ) → leb ((regs m).s + 1) (regs m).b ≡ true → g ≡ narrow (stack_word w 0) → m.made ≤ 25 → may_leave m g ≡ true
-      → going (leave (passed m ((regs m).s + 1)) g) c q ≡ outcome w (call7 w)
-  unfolding call7
-  call7-goes g e n few f =
-      let t = rw n at f in
-      let z = narrow_exact (λ y. may_leave m y) (leave-out m few) (stack_word w 0) t in
-      let u = rw z at t in
-      rw (e, u, n, z)
+    pub gate_made : (c : List ℕ) {q l : List ℕ} {r : Result Decision Fault} (g : ℕ) (a : Act) → Words who 1 q l → g ≡ narrow (get_or l 0 0)
+        → r ≡ if (may m g) (Ok (gone who (who.process.regs.s + 1) a)) (Err Gate)
+        → ((n : Machine) → performed n a ≡ act n g) → end_of a ≡ onward
+        → decided m (answered who r) c q ≡ outcome (world m c q) (on_gate (world m c q) may act)
+    gate_made c {q} g a h n e f o =
+        made c q (may m g) a (who.process.regs.s + 1) e (λ b. rw (f (passed m (who.process.regs.s + 1)), o) (gate_goes c g h n b)) (gate_stops c g h n)
 
-  pub call7-gate : (g : ℕ) → leb ((regs m).s + 1) (regs m).b ≡ true → g ≡ narrow (stack_word w 0) → m.made ≤ 25 → may_leave m g ≡ false → stopping m 8 c q ≡ outcome w (call7 w)
-  unfolding call7
-  call7-gate g e n few f =
-      let u = sym (narrow_test (λ y. may_leave m y) (leave-out m few) (stack_word w 0)) ∙ rw n at f in
-      rw (e, u)
+  module _
+      (may : Machine → ℕ → ℕ → Bool)
+      (act : Machine → ℕ → ℕ → Machine)
+      (out : (x y : ℕ) → 255 ≤ y → may m y x ≡ false)
+      (outCell : (g y : ℕ) → 255 ≤ y → may m g y ≡ false)
+    where
+      cell_goes : (c : List ℕ) {q l : List ℕ} (g x : ℕ) → Words who 2 q l → x ≡ narrow (get_or l 0 0) → g ≡ narrow (get_or l 1 0) → may m g x ≡ true
+          → record { machine = act (passed m (who.process.regs.s + 2)) g x; common = c; private = q; end = onward } ≡ outcome (world m c q) (on_cell (world m c q) may act)
+      cell_goes c {q} {l} g x h a b f =
+          let e = rw (a, b) at f in
+          let y = narrow_exact (λ y. may m y (narrow (get_or l 0 0))) (out (narrow (get_or l 0 0))) (get_or l 1 0) e in
+          let z = narrow_exact (may m (narrow (get_or l 1 0))) (outCell (narrow (get_or l 1 0))) (get_or l 0 0) e in
+          let u = rw (y, z) at e in
+          rw (enough 2 h.there, ← word_is c h 0 (omega arith), ← word_is c h 1 (omega arith), u, a, b, y, z, t.caller)
 
-  pub call7-few : leb ((regs m).s + 1) (regs m).b ≡ false → stopping m 7 c q ≡ outcome w (call7 w)
-  unfolding call7
-  call7-few e = rw e
+      cell_stops : (c : List ℕ) {q l : List ℕ} (g x : ℕ) → Words who 2 q l → x ≡ narrow (get_or l 0 0) → g ≡ narrow (get_or l 1 0) → may m g x ≡ false → on_cell (world m c q) may act ≡ stops 8
+      cell_stops c {q} {l} g x h a b f =
+          let e = rw (a, b) at f in
+          let y = narrow_test (λ y. may m y (narrow (get_or l 0 0))) (out (narrow (get_or l 0 0))) (get_or l 1 0) in
+          let z = narrow_test (may m (get_or l 1 0)) (outCell (get_or l 1 0)) (get_or l 0 0) in
+          let u = sym z ∙ sym y ∙ e in
+          rw (enough 2 h.there, ← word_is c h 0 (omega arith), ← word_is c h 1 (omega arith), u)
 
-  pub call8-goes : (g x : ℕ) → leb ((regs m).s + 2) (regs m).b ≡ true → x ≡ narrow (stack_word w 0) → g ≡ narrow (stack_word w 1) → m.made ≤ 25 → may_delay m g x ≡ true
-      → going (delay (passed m ((regs m).s + 2)) g x) c q ≡ outcome w (call8 w)
-  unfolding call8
-  call8-goes g x e a b few f =
-      let t = rw (a, b) at f in
-      let y = narrow_exact (λ y. may_delay m y (narrow (stack_word w 0))) (delay-out m few (narrow (stack_word w 0))) (stack_word w 1) t in
-      let z = narrow_exact (may_delay m (narrow (stack_word w 1))) (delay_cell_out m (narrow (stack_word w 1))) (stack_word w 0) t in
-      let u = rw (y, z) at t in
-      rw (e, u, a, b, y, z)
+      pub cell_made : (c : List ℕ) {q l : List ℕ} {r : Result Decision Fault} (g x : ℕ) (a : Act) → Words who 2 q l → x ≡ narrow (get_or l 0 0) → g ≡ narrow (get_or l 1 0)
+          → r ≡ if (may m g x) (Ok (gone who (who.process.regs.s + 2) a)) (Err Gate)
+          → ((n : Machine) → performed n a ≡ act n g x) → end_of a ≡ onward
+          → decided m (answered who r) c q ≡ outcome (world m c q) (on_cell (world m c q) may act)
+      cell_made c {q} g x a h i n e f o =
+          made c q (may m g x) a (who.process.regs.s + 2) e (λ b. rw (f (passed m (who.process.regs.s + 2)), o) (cell_goes c g x h i n b)) (cell_stops c g x h i n)
 
-  pub call8-gate : (g x : ℕ) → leb ((regs m).s + 2) (regs m).b ≡ true → x ≡ narrow (stack_word w 0) → g ≡ narrow (stack_word w 1) → m.made ≤ 25 → may_delay m g x ≡ false → stopping m 8 c q ≡ outcome w (call8 w)
-  unfolding call8
-  call8-gate g x e a b few f =
-      let t = rw (a, b) at f in
-      let y = narrow_test (λ y. may_delay m y (narrow (stack_word w 0))) (delay-out m few (narrow (stack_word w 0))) (stack_word w 1) in
-      let z = narrow_test (may_delay m (stack_word w 1)) (delay_cell_out m (stack_word w 1)) (stack_word w 0) in
-      let u = sym z ∙ sym y ∙ t in
-      rw (e, u)
+  -- ---- calls 1, 5 and 10 push a word
+  pushes : (c q q' : List ℕ) (s x : ℕ) (n : Machine) → n.running ≡ m.running → (proc n m.running).regs.s ≡ s → q' ≡ set q (own who.number s) x
+      → record { machine = n; common = c; private = q'; end = onward } ≡ outcome (world m c q) (on (with_top (world m c q) n x))
+  pushes c q q' s x n a b f = rw (f, t.caller, a, b)
 
-  pub call8-few : leb ((regs m).s + 2) (regs m).b ≡ false → stopping m 7 c q ≡ outcome w (call8 w)
-  unfolding call8
-  call8-few e = rw e
+  pub push_passed : (c q q' : List ℕ) (s x : ℕ) → q' ≡ set q (own who.number s) x
+      → record { machine = passed m s; common = c; private = q'; end = onward } ≡ outcome (world m c q) (on (with_top (world m c q) (passed m s) x))
+  push_passed c q q' s x f = pushes c q q' s x (passed m s) (passed_running m s) (passed-top m s t.there) f
 
-  pub call9-goes : (g x : ℕ) → leb ((regs m).s + 2) (regs m).b ≡ true → x ≡ narrow (stack_word w 0) → g ≡ narrow (stack_word w 1) → m.made ≤ 25 → may_continue m g x ≡ true
-      → going (continue (passed m ((regs m).s + 2)) g x) c q ≡ outcome w (call9 w)
-  unfolding call9
-  call9-goes g x e a b few f =
-      let t = rw (a, b) at f in
-      let y = narrow_exact (λ y. may_continue m y (narrow (stack_word w 0))) (continue-out m few (narrow (stack_word w 0))) (stack_word w 1) t in
-      let z = narrow_exact (may_continue m (narrow (stack_word w 1))) (continue_cell_out m (narrow (stack_word w 1))) (stack_word w 0) t in
-      let u = rw (y, z) at t in
-      rw (e, u, a, b, y, z)
+  pub push_stopped : (c q q' : List ℕ) (s x p reason : ℕ) → q' ≡ set q (own who.number s) x
+      → record { machine = stop_job (passed m s) p reason; common = c; private = q'; end = onward } ≡ outcome (world m c q) (on (with_top (world m c q) (stop_job (passed m s) p reason) x))
+  push_stopped c q q' s x p reason f =
+      let n : Machine = passed m s in
+      pushes c q q' s x (stop_job n p reason) (stop_running n p reason ∙ passed_running m s) (stop_top n p reason m.running ∙ passed-top m s t.there) f
 
-  pub call9-gate : (g x : ℕ) → leb ((regs m).s + 2) (regs m).b ≡ true → x ≡ narrow (stack_word w 0) → g ≡ narrow (stack_word w 1) → m.made ≤ 25 → may_continue m g x ≡ false → stopping m 8 c q ≡ outcome w (call9 w)
-  unfolding call9
-  call9-gate g x e a b few f =
-      let t = rw (a, b) at f in
-      let y = narrow_test (λ y. may_continue m y (narrow (stack_word w 0))) (continue-out m few (narrow (stack_word w 0))) (stack_word w 1) in
-      let z = narrow_test (may_continue m (stack_word w 1)) (continue_cell_out m (stack_word w 1)) (stack_word w 0) in
-      let u = sym z ∙ sym y ∙ t in
-      rw (e, u)
-
-  pub call9-few : leb ((regs m).s + 2) (regs m).b ≡ false → stopping m 7 c q ≡ outcome w (call9 w)
-  unfolding call9
-  call9-few e = rw e
+  pub push_made : (c q q' : List ℕ) (s x : ℕ) → q' ≡ set q (own who.number s) x
+      → record { machine = make_gate (passed m s); common = c; private = q'; end = onward } ≡ outcome (world m c q) (on (with_top (world m c q) (make_gate (passed m s)) x))
+  push_made c q q' s x f =
+      let n : Machine = passed m s in
+      pushes c q q' s x (make_gate n) (make_running n ∙ passed_running m s) (ap (λ (r : Regs). r.s) (make_regs n m.running) ∙ passed-top m s t.there) f

@@ -1,54 +1,43 @@
--- Call 3: a run of words written one after another, and the child's part made of two such runs
+-- Call 3: the child's part, cleared and then given the parent's words, and the call's tests in their order
 use mathlib.Core.Path.{◌≡◌, refl, sym, ap, ◌∙◌}
-use mathlib.Core.Bool.{Bool, true, false, ◌||◌, not}
-use mathlib.Core.List.{List, ◌∷◌, ◌++◌, append_assoc}
+use mathlib.Core.Bool.{◌||◌, not}
+use mathlib.Core.List.{List, [], ◌∷◌, ◌++◌, append_assoc, reverse}
+use mathlib.Core.Logic.{◌⊎◌, ◌≢◌, inl, inr}
 use Prim.Native.Nat.{ℕ, zero, suc, ◌+◌, ◌-◌, ◌*◌, ◌≤◌, ◌<◌}
 use native.Mathlib.Omega.{arith}
 use lib.Dec.{ltb, leb, eqb}
-use lib.ListN.{length, get_or, set, take, drop, replicate, length-append, length-replicate, replicate-append-replicate, take-append-drop}
-use lib.Seq.{length-take-le, set_at, take_at, drop_at, drop-drop, drop-cons, drop-append-le, get_or-take}
-use borrow.Author.Tests.{lt-leb, ltb-false, leb-false, eqb-true, not-false}
+use lib.ListN.{length, get_or, take, drop, replicate, length-append, length-replicate, length-drop, replicate-append-replicate}
+use lib.Seq.{length-take-le, take_at, drop_at, drop-drop, drop-append-le, get_or-take, get_or-drop, take-suc, paste}
+use borrow.Author.Tests.{lt-leb, le-leb, lt-ltb, le-ltb, ne_eqb, eq-eqb}
+use Rattle.std.proofs.lemmas.List.{reverse-append}
 use Rattle.notation.specs.If.{if}
 use Rattle.notation.specs.Upto.{list_from, list_to}
-use Rattle.notation.proofs.Upto.{length_list, list_same, list_append, neither}
+use Rattle.notation.proofs.Upto.{list_same}
 use Rattle.machine.specs.declared.Machine.{Machine}
 use Rattle.machine.specs.Store.{World, own}
 use Rattle.machine.specs.Call.{Called, on, stops, has_words, passed, popped, new_part, create_process, call3}
 use Rattle.machine.specs.View.{cleared}
-use Rattle.kernel.specs.Part.{part_with}
+use Rattle.machine.specs.Step.{onward}
+use Rattle.kernel.specs.Part.{child_part}
 use Rattle.kernel.specs.declared.caller.Caller.{Caller}
-use Rattle.kernel.specs.Did.{caller_of, world}
-use Rattle.kernel.proofs.Laws.{regs, has_words_lem}
+use Rattle.kernel.specs.Did.{Told, Words, world, outcome}
+use Rattle.kernel.proofs.Laws.{enough, word_is}
 
--- ---- a list whose words from a place on are anew
-module _ (l : List ℕ) (at : ℕ) where
-  -- the words before that place are as they were, whatever comes from it on
-  pub words_before : (r : List ℕ) (j : ℕ) → at ≤ length l → j < at → get_or (take at l ++ r) j 0 ≡ get_or l j 0
-  words_before r j h b =
-      let e : take at (take at l ++ r) ≡ take at l = take_at (take at l) r at (length-take-le at l h) in
-      sym (get_or-take at (take at l ++ r) j 0 b) ∙ ap (λ x. get_or x j 0) e ∙ get_or-take at l j 0 b
+-- ---- a list whose words from a place on are anew: the words before it are as they were
+words_before : (l : List ℕ) (at : ℕ) (r : List ℕ) (j : ℕ) → at ≤ length l → j < at → get_or (take at l ++ r) j 0 ≡ get_or l j 0
+words_before l at r j h b =
+    let e : take at (take at l ++ r) ≡ take at l = take_at (take at l) r at (length-take-le at l h) in
+    sym (get_or-take at (take at l ++ r) j 0 b) ∙ ap (λ x. get_or x j 0) e ∙ get_or-take at l j 0 b
 
-  -- no word is written, and one more
-  pub part_none : (f : ℕ → ℕ) → l ≡ part_with l at f 0
-  unfolding list_from
-  part_none f = let e : at + 0 ≡ at = omega arith in rw e (sym (take-append-drop at l))
-
-  pub part_more : (f : ℕ → ℕ) (i : ℕ) → at + i < length l → set (part_with l at f i) (at + i) (f i) ≡ part_with l at f (i + 1)
-  unfolding list_from
-  part_more f i h =
-      let front : List ℕ = take at l ++ list_to f i in
-      let rest : List ℕ = drop (suc (at + i)) l in
-      let long : length front ≡ at + i = simp (length-append, length-take-le at l (omega arith), length_list f 0 i) in
-      let e : at + (i + 1) ≡ suc (at + i) = omega arith in
-      let z : 0 + i ≡ i = omega arith in
-      rw (← append_assoc (take at l) (list_to f i) (drop (at + i) l), drop-cons l (at + i) 0 h)
-      (set_at front (get_or l (at + i) 0) rest (f i) (at + i) long ∙ rw (e, list_append f 0 i 1, z) (simp append_assoc))
-
--- ---- a cleared part is a run of zeros
-pub zeros : (i n : ℕ) → list_from {A = ℕ} (λ k. 0) i n ≡ replicate n 0
+-- p words from a place on, the last first
+reversed : (l : List ℕ) (a p : ℕ) → a + p ≤ length l → reverse (take p (drop a l)) ≡ list_to (λ k. get_or l (a + (p - 1 - k)) 0) p
 unfolding list_from
-zeros i zero = refl
-zeros i (suc n) = ap (λ (l : List ℕ). 0 ∷ l) (zeros (suc i) n)
+reversed l a zero h = refl
+reversed l a (suc p) h =
+    let long : p < length (drop a l) = simp length-drop (omega (arith, h)) in
+    let first : get_or l (a + p) 0 ≡ get_or l (a + (suc p - 1 - 0)) 0 = ap (λ x. get_or l x 0) (omega arith) in
+    let rest : list_to (λ k. get_or l (a + (p - 1 - k)) 0) p ≡ list_from (λ k. get_or l (a + (suc p - 1 - k)) 0) 1 p = list_same _ _ 0 1 p (λ k i. ap (λ x. get_or l x 0) (omega (arith, i))) in
+    rw (take-suc (drop a l) p 0 long, reverse-append (take p (drop a l)) (get_or (drop a l) p 0 ∷ []), get_or-drop a l p 0, reversed l a p (omega (arith, h)), first, rest)
 
 -- zeros are left behind the p words that are written over the first of them
 zeros_left : (n p : ℕ) → p ≤ n → drop p (replicate {A = ℕ} n 0) ≡ replicate (n - p) 0
@@ -63,36 +52,41 @@ cleared-rest l at n p h k =
     let g : p ≤ length (replicate {A = ℕ} n 0) = rw (length-replicate {A = ℕ} n 0) k in
     sym (drop-drop p at (cleared l at n)) ∙ rw (e, drop-append-le p (replicate n 0) (drop (at + n) l) g, zeros_left n p k)
 
--- ---- the child's part: cleared, and the p words that lie from the deepest on, in their order
-abbrev pub child_in : List ℕ → ℕ → ℕ → ℕ → List ℕ
-child_in l at s p =
-    take at l ++ (list_to (λ k. get_or l (own 0 (s + (2 + p - k))) 0) p ++ (replicate (2048 - p) 0 ++ drop (at + 2048) l))
+-- ---- the part is filled with zeros, p words that lie below it are copied to its front, and are turned round
+turned : (q l : List ℕ) (at last p : ℕ) → at + 2048 ≤ length q → last + p ≤ at → p ≤ 2048
+    → l ≡ paste (cleared q at 2048) at (drop last (cleared q at 2048)) p
+    → take at l ++ (reverse (take p (drop at l)) ++ drop p (drop at l))
+    ≡ take at q ++ (list_to (λ k. get_or q (last + (p - 1 - k)) 0) p ++ (replicate (2048 - p) 0 ++ drop (at + 2048) q))
+turned q l at last p long below few e =
+    let zeros : List ℕ = replicate 2048 0 ++ drop (at + 2048) q in
+    let q' : List ℕ = take at q ++ zeros in
+    let w : List ℕ = take p (drop last q') in
+    let rest : List ℕ = drop (at + p) q' in
+    let lq : length (take at q) ≡ at = length-take-le at q (omega (arith, long)) in
+    let far : at ≤ length q' = simp (length-append, lq) (omega arith) in
+    let near : p ≤ length (drop last q') = simp length-drop (omega (arith, far, below)) in
+    let lw : length w ≡ p = length-take-le p (drop last q') near in
+    let front : take at q' ≡ take at q = take_at (take at q) zeros at lq in
+    let parts : l ≡ take at q ++ (w ++ rest) = e ∙ append_assoc (take at q') w rest ∙ ap (λ x. x ++ (w ++ rest)) front in
+    let words : list_to (λ k. get_or q' (last + (p - 1 - k)) 0) p ≡ list_to (λ k. get_or q (last + (p - 1 - k)) 0) p = list_same _ _ 0 0 p (λ k h. words_before q at zeros (last + (p - 1 - (0 + k))) (omega (arith, long)) (omega (arith, below, h))) in
+    let back : reverse w ≡ list_to (λ k. get_or q (last + (p - 1 - k)) 0) p = reversed q' last p (omega (arith, far, below)) ∙ words in
+    rw (parts, take_at (take at q) (w ++ rest) at lq, drop_at (take at q) (w ++ rest) at lq, take_at w rest p lw, drop_at w rest p lw, back, cleared-rest q at 2048 p long few)
 
-pub child_part_lem : (l : List ℕ) (at deepest p s : ℕ)
-    → (at + 2048 ≤ length l) × (deepest < at) × (p ≤ 2048) × (2048 ≤ s) × (deepest ≡ s - 2048 + 2 + p)
-    → part_with (cleared l at 2048) at (λ k. get_or (cleared l at 2048) (deepest - k) 0) p
-    ≡ child_in l at s p
-child_part_lem l at deepest p s (long, below, few, low, e) =
-    let front : take at (cleared l at 2048) ≡ take at l = take_at (take at l) _ at (length-take-le at l (omega arith)) in
-    let words : list_to (λ k. get_or (cleared l at 2048) (deepest - k) 0) p ≡ list_to (λ k. get_or l (own 0 (s + (2 + p - k))) 0) p = list_same _ _ 0 0 p (λ k h. words_before l at _ _ (omega arith) (omega arith) ∙ ap (λ j. get_or l j 0) (omega arith)) in
-    rw (front, words, cleared-rest l at 2048 p long few)
+pub child_part_lem : (q f r l : List ℕ) (at size x y last child s p : ℕ)
+    → (at ≡ 2048 * child) × (at + 2048 ≤ length q) × (last ≡ own 0 (s + 3)) × (last + p ≤ at) × (p ≤ 2048) × (2048 ≤ s)
+    → (size ≡ 2048) × (x ≡ p) × (y ≡ p)
+    → f ≡ replicate (length (take size (drop at q))) 0
+    → l ≡ paste (take at q ++ (f ++ drop size (drop at q))) at (drop last (take at q ++ (f ++ drop size (drop at q)))) x
+    → r ≡ reverse (take y (drop at l))
+    → take at l ++ (r ++ drop y (drop at l)) ≡ child_part q child s p
+child_part_lem q f r l at size x y last child s p (ea, long, el, below, few, low) (en, ex, ey) ef e g =
+    let n : length (take size (drop at q)) ≡ 2048 = rw en (length-take-le 2048 (drop at q) (simp length-drop (omega (arith, long)))) in
+    let z : take at q ++ (f ++ drop size (drop at q)) ≡ cleared q at 2048 = rw (ef, n, en, drop-drop 2048 at q) in
+    let t = turned q l at last p long below few (rw (z, ex) at e) in
+    let words : list_to (λ k. get_or q (last + (p - 1 - k)) 0) p ≡ list_to (λ k. get_or q (own 0 (s + (2 + p - k))) 0) p = list_same _ _ 0 0 p (λ k h. ap (λ j. get_or q j 0) (omega (arith, el, low, h))) in
+    rw (g, ey, t, words, ea)
 
 -- ---- the tests of call 3
--- the three words that are popped first
-pub record Three (m : Machine) (q : List ℕ) (t v p : ℕ) : Type 0 where
-  pub words : leb ((regs m).s + 3) (regs m).b ≡ true
-  pub first : t ≡ get_or q (own m.running ((regs m).s + 0)) 0
-  pub second : v ≡ get_or q (own m.running ((regs m).s + 1)) 0
-  pub third : p ≡ get_or q (own m.running ((regs m).s + 2)) 0
-
-pub three : (m : Machine) (q : List ℕ) (who : Caller) (x : Bool) (t v p : ℕ)
-    → who ≡ caller_of m
-    → (x ≡ leb (who.process.regs.s + 3) who.process.regs.b) × (not x ≡ false)
-    → (t ≡ get_or q (own who.number (who.process.regs.s + 0)) 0) × (v ≡ get_or q (own who.number (who.process.regs.s + 1)) 0) × (p ≡ get_or q (own who.number (who.process.regs.s + 2)) 0)
-    → Three m q t v p
-three m q who x t v p e (f, n) (a, b, d) =
-    record { words = has_words_lem m who 3 x true e f (not-false x n); first = rw e at a; second = rw e at b; third = rw e at d }
-
 -- what is tested after they are there
 abbrev tested : World → ℕ → ℕ → ℕ → Called
 tested w t v p =
@@ -102,34 +96,47 @@ tested w t v p =
     (if (leb w.machine.length t) (stops 7)
     (on (record { machine = create_process (popped w (3 + p)) t v; common = w.common; private = new_part w p })))))
 
-pub call3_tested : (m : Machine) (c q : List ℕ) {t v p : ℕ} → Three m q t v p → call3 (world m c q) ≡ tested (world m c q) t v p
-unfolding call3
-call3_tested m c q h = rw (h.words, ← h.first, ← h.second, ← h.third)
+module _ {m : Machine} {who : Caller} (e : Told who m) (c : List ℕ) {q l : List ℕ} (h : Words who 3 q l) where
+  call3_tested : call3 (world m c q) ≡ tested (world m c q) (get_or l 0 0) (get_or l 1 0) (get_or l 2 0)
+  unfolding call3
+  call3_tested = rw (enough e 3 h.there, ← word_is e c h 0 (omega arith), ← word_is e c h 1 (omega arith), ← word_is e c h 2 (omega arith))
 
--- p is at most v, and v at most 1,024
-pub few_words : (v p : ℕ) → ltb 1024 v || ltb v p ≡ false → p ≤ 1024
-few_words v p e =
-    let f = neither (ltb 1024 v) (ltb v p) e in
-    omega (arith, ltb-false 1024 v f.0, ltb-false v p f.1)
+  pub call3_limit : (who.number ≢ 0) ⊎ ((who.number ≡ 0) × (10 ≤ who.created)) → call3 (world m c q) ≡ stops 9
+  call3_limit (inl n) = let z : m.running ≢ 0 = rw e.caller at n in rw (call3_tested, ne_eqb m.running 0 z)
+  call3_limit (inr (n, k)) =
+      let y : m.running ≡ 0 = rw e.caller at n in
+      let z : 10 ≤ m.created = rw e.caller at k in
+      rw (call3_tested, eq-eqb m.running 0 y, le-leb 10 m.created z)
 
--- process 0 calls, and there are fewer than ten
-pub by_0 : (i n : ℕ) → not (eqb i 0) || leb 10 n ≡ false → (i ≡ 0) × (n < 10)
-by_0 i n e =
-    let f = neither (not (eqb i 0)) (leb 10 n) e in
-    (eqb-true i 0 (not-false (eqb i 0) f.0), leb-false 10 n f.1)
+  module _ (number : who.number ≡ 0) (room : who.created < 10) where
+    first : m.running ≡ 0
+    first = rw e.caller at number
 
--- where all hold, the caller has gone on, and the child's part is made
-pub call3-made : (m : Machine) (c q : List ℕ) (who : Caller) {t v p : ℕ}
-    → Three m q t v p
-    → who ≡ caller_of m
-    → not (eqb who.number 0) || leb 10 who.created ≡ false
-    → ltb 1024 v || ltb v p ≡ false
-    → leb ((regs m).s + (3 + p)) (regs m).b ≡ true
-    → t < who.length
-    → on (record { machine = create_process (passed m (who.process.regs.s + (3 + p))) t v; common = c; private = child_in q (2048 * who.created) who.process.regs.s p })
-    ≡ call3 (world m c q)
-unfolding new_part
-call3-made m c q who {t} h e limit range more code =
-    let few : not (eqb m.running 0) || leb 10 m.created ≡ false = rw e at limit in
-    let known : t < m.length = rw e at code in
-    rw (call3_tested m c q h, few, range, more, lt-leb m.length t known, e, (by_0 m.running m.created few).0)
+    fewer : m.created < 10
+    fewer = rw e.caller at room
+
+    pub call3_range : (1024 < get_or l 1 0) ⊎ ((get_or l 1 0 ≤ 1024) × (get_or l 1 0 < get_or l 2 0)) → call3 (world m c q) ≡ stops 3
+    call3_range (inl k) = rw (call3_tested, eq-eqb m.running 0 first, lt-leb 10 m.created fewer, lt-ltb 1024 (get_or l 1 0) k)
+    call3_range (inr (k, j)) =
+        rw (call3_tested, eq-eqb m.running 0 first, lt-leb 10 m.created fewer, le-ltb 1024 (get_or l 1 0) k, lt-ltb (get_or l 1 0) (get_or l 2 0) j)
+
+    module _ (most : get_or l 1 0 ≤ 1024) (fits : get_or l 2 0 ≤ get_or l 1 0) where
+      -- all but the further words, and the address in the code
+      pub call3_rest : call3 (world m c q)
+          ≡ has_words (world m c q) (3 + get_or l 2 0)
+          (if (leb m.length (get_or l 0 0)) (stops 7)
+          (on (record { machine = create_process (popped (world m c q) (3 + get_or l 2 0)) (get_or l 0 0) (get_or l 1 0); common = c; private = new_part (world m c q) (get_or l 2 0) })))
+      call3_rest = rw (call3_tested, eq-eqb m.running 0 first, lt-leb 10 m.created fewer, le-ltb 1024 (get_or l 1 0) most, le-ltb (get_or l 1 0) (get_or l 2 0) fits)
+
+      module _ (more : who.process.regs.s + (3 + get_or l 2 0) ≤ who.process.regs.b) where
+        pub call3_code : who.length ≤ get_or l 0 0 → call3 (world m c q) ≡ stops 7
+        call3_code k = let z : m.length ≤ get_or l 0 0 = rw e.caller at k in rw (call3_rest, enough e (3 + get_or l 2 0) more, le-leb m.length (get_or l 0 0) z)
+
+        -- the caller has gone on, and the child's part is made
+        pub call3-made : get_or l 0 0 < who.length
+            → record { machine = create_process (passed m (who.process.regs.s + (3 + get_or l 2 0))) (get_or l 0 0) (get_or l 1 0); common = c; private = child_part q who.created who.process.regs.s (get_or l 2 0); end = onward }
+            ≡ outcome (world m c q) (call3 (world m c q))
+        unfolding new_part
+        call3-made k =
+            let z : get_or l 0 0 < m.length = rw e.caller at k in
+            rw (call3_rest, enough e (3 + get_or l 2 0) more, lt-leb m.length (get_or l 0 0) z, e.caller, first)

@@ -1,14 +1,17 @@
 -- What the kernel's functions are given and answer, in the words of the definitions
-use Rattle.std.specs.Prelude.{◌≡◌, Bool, false, ◌&&◌, List, [], ℕ, ◌+◌, ◌≤◌, ◌<◌, ltb, leb, length, get_or, set}
+use Rattle.std.specs.Prelude.{◌≡◌, Bool, true, false, ◌&&◌, List, [], Result, Ok, Err, ℕ, ◌+◌, ◌≤◌, ◌<◌, ltb, leb, length, get_or, set}
 use Rattle.notation.specs.If.{if}
+use Rattle.word.specs.declared.Fault.{Fault}
+use Rattle.word.specs.Word.{number_of}
 use Rattle.machine.specs.declared.Device.{Device}
 use Rattle.machine.specs.declared.Gate.{Gate}
 use Rattle.machine.specs.declared.Process.{Process}
 use Rattle.machine.specs.declared.Machine.{Machine}
 use Rattle.machine.specs.declared.Regs.{Regs}
-use Rattle.machine.specs.State.{nobody, proc, device, timed, with_process}
+use Rattle.machine.specs.State.{nobody, proc, device, timed, with_process, with_regs}
+use Rattle.machine.specs.View.{marks}
 use Rattle.machine.specs.Store.{World, own, whole}
-use Rattle.machine.specs.Gate.{enter, leave, delay, continue, make_gate}
+use Rattle.machine.specs.Gate.{enter, leave, delay, continue, make_gate, may_enter, may_leave, may_delay, may_continue}
 use Rattle.machine.specs.Clock.{clock_wait, bell_wait}
 use Rattle.machine.specs.Device.{record_of, device_start, device_done}
 use Rattle.machine.specs.Call.{Called, on, starts, stops, caller, create_process, finish, stop_job, kernel}
@@ -26,7 +29,7 @@ world m c q = record { machine = m; common = c; private = q }
 -- ---- what a call decides is a record of its caller and a move of the machine; what the move gives, and how the call ends
 abbrev pub performed : Machine → Act → Machine
 performed m Unfit = m
-performed m (Stop f line) = timed m f line m.seconds m.fraction
+performed m (Stop f line) = timed m (number_of f) line m.seconds m.fraction
 performed m Go = m
 performed m WaitClock = clock_wait m
 performed m WaitBell = bell_wait m
@@ -74,6 +77,32 @@ outcome w (on v) = record { machine = v.machine; common = v.common; private = v.
 outcome w (starts d v) = record { machine = v.machine; common = v.common; private = v.private; end = starting d }
 outcome w (stops f) =
     record { machine = timed w.machine f (caller w).regs.line w.machine.seconds w.machine.fraction; common = w.common; private = w.private; end = stopped }
+
+-- how a call leaves its caller: past KTRAP, with S at s; or with a fault, with which the machine stops at the caller's last line
+abbrev pub gone : Caller → ℕ → Act → Decision
+gone who s act =
+    let r : Regs = who.process.regs in
+    record { process = with_regs who.process (marks r (r.address + 2) r.line s r.b); act = act }
+
+abbrev pub answered : Caller → Result Decision Fault → Decision
+answered who (Ok x) = x
+answered who (Err f) = record { process = who.process; act = Stop f who.process.regs.line }
+
+-- whether a move of a gate is no fault
+abbrev pub may_make : Machine → Act → Bool
+may_make m (Enter g) = may_enter m g
+may_make m (Leave g) = may_leave m g
+may_make m (Delay g c) = may_delay m g c
+may_make m (Continue g c) = may_continue m g c
+may_make m _ = true
+
+-- word j of its caller's stack; and that a list is the k words that were pushed last, the last first
+abbrev pub word_at : Caller → List ℕ → ℕ → ℕ
+word_at who q j = get_or q (own who.number (who.process.regs.s + j)) 0
+
+pub record Words (who : Caller) (k : ℕ) (q l : List ℕ) : Type 0 where
+  pub there : who.process.regs.s + k ≤ who.process.regs.b
+  pub each : (j : ℕ) → j < k → get_or l j 0 ≡ word_at who q j
 
 -- ---- a function that is passed only a part of the world does what the definition does, whatever the rest is
 abbrev pub OnMachine : Decision → Machine → (World → Called) → Type 0
@@ -148,16 +177,13 @@ CallOf who processes gates k x c c' q q' =
     → OnStores x m c c' q q' (λ w. kernel w k)
 
 -- the device, the operation and the record's address that call 11 has found on its caller's stack
-abbrev pub Begins : Caller → ℕ → ℕ → ℕ → List ℕ → List ℕ → Type 0
-Begins who d operation a c q =
-    Able who
-    × (who.process.regs.s + 2 ≤ who.process.regs.b)
+abbrev pub Begins : Caller → ℕ → ℕ → ℕ → List ℕ → Type 0
+Begins who d operation a q =
+    (who.process.regs.s + 2 ≤ who.process.regs.b)
     × (d ≤ 4)
     × (operation ≤ 3)
     × (a ≤ 4092)
     × (a ≡ get_or q (own who.number (who.process.regs.s + 0)) 0)
-    × (length c ≡ 2048)
-    × (length q ≡ 20480)
 
 -- the call, where the caller and the stores are as in a sound state; else it is not fit to begin, and nothing changes
 unfoldable pub traps : World → ℕ → Outcome

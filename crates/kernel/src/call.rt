@@ -1,57 +1,44 @@
 // KTRAP k by its number, where the caller and the stores are fit for it: first the decision, then the move of the machine.
-ghost use Rattle.std.specs.Prelude.{◌≡◌, length};
+ghost use Rattle.std.specs.Prelude.{◌≡◌};
 ghost use Rattle.machine.specs.State.{timed};
-ghost use Rattle.kernel.specs.Did.{performed, Able, able, CallOf, CallDecided};
+ghost use Rattle.word.specs.Word.{number_of};
+ghost use Rattle.kernel.specs.Did.{performed, CallOf, CallDecided, answered};
 
-use crate::answer::{Act, Decision, stops, unfit};
+use crate::answer::{Act, Decision};
 use crate::caller::Caller;
+use crate::fit::Fit;
 use crate::{create, io, on_gate, small};
-use image::Header;
 use machine::{Gate, Machine, Process};
-use word::fault;
+use word::Fault;
 
-// The call of a number; any other is 7.
+// The call of a number; any other is 7. The numbers are document 01's. Each call is given other parts, so a table of closures would
+// be no plainer than this match; nor would it be in `perform`.
+#[tactic(auto, unfolding(machine::specs::Call::kernel))]
 fn call_of(
-    who: Caller,
+    who: Fit,
     processes: [Process; Machine::PROCESSES as usize],
     gates: [Gate; Machine::GATES as usize],
     k: u16,
-    common: &mut [u16],
-    private: &mut [u16],
-) -> Decision
-    requires { Able who × (length common.old ≡ 2048) × (length private.old ≡ 20480) }
-    ensures { CallOf who processes gates k result common.old common.new private.old private.new }
+    common: &mut [u16; Machine::COMMON],
+    private: &mut [u16; Machine::PRIVATE],
+) -> Result<Decision, Fault>
+    ensures { CallOf who.caller processes gates k (answered who.caller result) common.old common.new private.old private.new }
 {
     match k {
-        0 => small::call0(who),
+        0 => Ok(small::call0(who)),
         1 => small::call1(who, private),
         2 => small::call2(who, private),
         3 => create::call3(who, private),
         4 => small::call4(who),
         5 => small::call5(who, processes, private),
         6 => on_gate::call6(who, gates, private),
-        7 => on_gate::call7(who, private),
+        7 => on_gate::call7(who, gates, private),
         8 => on_gate::call8(who, gates, private),
-        9 => on_gate::call9(who, private),
+        9 => on_gate::call9(who, gates, private),
         10 => on_gate::call10(who, private),
         11 => io::call11(who, common, private),
-        _ => stops(who, fault::CODE),
+        _ => Err(Fault::Code),
     }
-}
-
-// What a sound state gives of a caller that runs.
-fn is_able(who: Caller) -> bool
-    ensures { result ≡ able who }
-{
-    let p = who.process;
-    let r = p.regs;
-    (who.number < Machine::NOBODY)
-        & (1 <= who.created)
-        & (who.made <= Machine::GATES)
-        & (Machine::OWN <= r.s)
-        & (r.s <= r.b)
-        & (r.b <= Machine::CEILING)
-        & (r.address <= Header::MOST_LENGTH)
 }
 
 // What a kernel call of the running process does to its record and to the stores, and the move of the machine that is left to do.
@@ -67,20 +54,23 @@ pub fn decide(
 ) -> Decision
     ensures { CallDecided who processes gates k result common.old common.new private.old private.new }
 {
-    let able = is_able(who);
-    let fit = (common.len() == Machine::COMMON) & (private.len() == Machine::PRIVATE) & able;
-    if fit {
-        call_of(who, processes, gates, k, common, private)
-    } else {
-        unfit(who)
-    }
+    let Some(common) = common.as_mut_array() else {
+        return who.unfit();
+    };
+    let Some(private) = private.as_mut_array() else {
+        return who.unfit();
+    };
+    let Some(fit) = who.fit() else {
+        return who.unfit();
+    };
+    call_of(fit, processes, gates, k, common, private).unwrap_or_else(|fault| who.stops(fault))
 }
 
-// The machine stops with a number, at a line.
-fn halt(mut m: Machine, f: u8, line: u16) -> Machine
-    ensures { result ≡ timed m f line m.seconds m.fraction }
+// The machine stops with a fault, at a line.
+fn halt(mut m: Machine, fault: Fault, line: u16) -> Machine
+    ensures { result ≡ timed m (number_of fault) line m.seconds m.fraction }
 {
-    m.stop = f;
+    m.stop = u8::from(fault);
     m.line = line;
     m
 }
@@ -91,7 +81,7 @@ pub fn perform(m: Machine, act: Act) -> Machine
 {
     match act {
         Act::Unfit => m,
-        Act::Stop(f, line) => halt(m, f, line),
+        Act::Stop(fault, line) => halt(m, fault, line),
         Act::Go => m,
         Act::WaitClock => m.clock_wait(),
         Act::WaitBell => m.bell_wait(),

@@ -6,6 +6,7 @@ mod call;
 mod caller;
 mod create;
 mod done;
+mod fit;
 mod io;
 mod on_gate;
 mod small;

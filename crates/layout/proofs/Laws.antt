@@ -4,15 +4,12 @@ use mathlib.Core.Bool.{Bool, true, ◌&&◌}
 use mathlib.Core.List.{List, [], ◌∷◌, ◌++◌, append-nil}
 use Prim.Native.Nat.{ℕ, zero, suc, ◌+◌, ◌≤◌, ◌<◌}
 use native.Mathlib.Omega.{arith}
-use native.Mathlib.Numerals.{add-one}
 use borrow.Author.Tests.{ltb-true, lt-ltb, eqb-true}
 use lib.Dec.{ltb}
-use lib.ListN.{length, get_or, set, take, length-append}
-use lib.Seq.{sets, length-sets, sets-eq, drop-length, take-suc, length-take-le}
-use Rattle.notation.specs.Upto.{list_to}
+use lib.ListN.{length, get_or, set, length-append}
+use lib.Seq.{sets, sets-eq, drop-length}
 use Rattle.notation.proofs.Upto.{both, all_at, all_of}
-use Rattle.machine.specs.declared.Queue.{Queue}
-use Rattle.layout.specs.Layout.{rows, from, bytes, queue_of, gate_of, process_fits, fits}
+use Rattle.layout.specs.Layout.{from, bytes, process_fits, fits}
 use Rattle.layout.specs.Read.{Fitting}
 use Rattle.layout.specs.Write.{Put}
 
@@ -23,10 +20,6 @@ joined l at zero (x ∷ xs) ys e = absurd (omega arith)
 joined l at (suc n) (x ∷ xs) ys e =
     let z : at + suc n ≡ suc at + n = omega arith in
     rw z (joined (set l at x) (suc at) n xs ys (omega arith))
-
-pub one_more : (l xs : List ℕ) (at k : ℕ) → k < length xs → set (sets l at (take k xs)) (at + k) (get_or xs k 0) ≡ sets l at (take (k + 1) xs)
-one_more l xs at k h =
-    rw (add-one k, take-suc xs k 0 h) (joined l at k (take k xs) (get_or xs k 0 ∷ []) (length-take-le k xs (omega arith)))
 
 -- ---- bytes
 pub byte_at : (ws : List ℕ) (at n k : ℕ) → bytes (from ws at) n ≡ true → k < n → get_or ws (at + k) 0 < 256
@@ -45,12 +38,6 @@ shifted ws at j = fun_ext (λ k. let z : at + j + k ≡ at + (j + k) = omega ari
 pub bytes_shifted : (ws : List ℕ) (at j n : ℕ) → bytes (from ws (at + j)) n ≡ bytes (λ k. from ws at (j + k)) n
 bytes_shifted ws at j n = ap (λ (w : ℕ → ℕ). bytes w n) (shifted ws at j)
 
-pub first : (ws : List ℕ) (at : ℕ) → from ws at 0 ≡ get_or ws at 0
-first ws at = let z : at + 0 ≡ at = omega arith in rw z
-
-pub queue_got : (ws members : List ℕ) (at : ℕ) → members ≡ list_to (from ws (at + 1)) 10 → record { len = get_or ws at 0; at = members } ≡ queue_of (from ws at)
-queue_got ws members at e = rw (e, shifted ws at 1, ← first ws at)
-
 -- ---- a part written after another
 pub stored : (l : List ℕ) (at x : ℕ) → Put l at (x ∷ []) 1 (set l at x)
 stored l at x = record { stands = refl; long = refl }
@@ -62,27 +49,11 @@ then {l} {to} {new} {at} {n} {w} {xs} {ys} p q =
       long = length-append xs ys ∙ rw (p.long, q.long);
     }
 
-pub row_more : {l to new : List ℕ} {at n w : ℕ} (f : ℕ → List ℕ) (i : ℕ) → Put l at (rows f i) n to → Put to (at + n) (f i) w new → Put l at (rows f (i + 1)) (n + w) new
-unfolding rows
-row_more f i p q = rw (add-one i) (then p q)
-
-pub same-long : {l new xs : List ℕ} {at n : ℕ} → Put l at xs n new → length new ≡ length l
-same-long {l} {new} {xs} {at} p = ap length p.stands ∙ length-sets l at xs
-
 -- all words written
 pub whole : {l new xs : List ℕ} {n : ℕ} → Put l 0 xs n new → length l ≡ n → new ≡ xs
 whole {l} {new} {xs} p e =
     let z : 0 + length xs ≡ length l = omega (arith, p.long) in
     p.stands ∙ sets-eq xs l 0 (omega arith) ∙ rw (z, drop-length l) (append-nil xs)
-
-pub first-row : {l to new : List ℕ} {n w : ℕ} (f : ℕ → List ℕ) (i : ℕ) → Put l 0 (rows f i) n to → Put to n (f i) w new → Put l 0 (rows f (i + 1)) (n + w) new
-first-row {n = n} f i p q = let z : 0 + n ≡ n = omega arith in row_more f i p (rw z q)
-
--- ---- parts read
-pub gate_got : (ws cells : List ℕ) (at : ℕ) (q : Queue) → q ≡ queue_of (from ws (at + 1)) → cells ≡ list_to (from ws (at + 12)) 8 → record { holder = get_or ws at 0; queue = q; cells = cells } ≡ gate_of (from ws at)
-gate_got ws cells at q d e =
-    let c : q ≡ queue_of (λ k. from ws at (1 + k)) = d ∙ ap queue_of (shifted ws at 1) in
-    rw (c, e, shifted ws at 12, ← first ws at)
 
 -- ---- what a process that fits has
 module _ (ws : List ℕ) (at : ℕ) (e : process_fits (from ws at) ≡ true) where
@@ -94,12 +65,6 @@ module _ (ws : List ℕ) (at : ℕ) (e : process_fits (from ws at) ≡ true) whe
 
   pub process_byte : (k : ℕ) → k < 11 → get_or ws (at + (12 + k)) 0 < 256
   process_byte k h = ltb-true _ _ (all_at (λ k. ltb (from ws at (12 + k)) 256) 11 k process_small h)
-
-  pub process_held : bytes (from ws (at + 15)) 8 ≡ true
-  process_held =
-      bytes_shifted ws at 15 8
-      ∙ all_of (λ k. ltb (from ws at (15 + k)) 256) 8
-      (λ k l. let z : 15 + k ≡ 12 + (3 + k) = omega arith in rw z (lt-ltb _ _ (process_byte (3 + k) (omega arith))))
 
 -- ---- what words that fit have
 pub fitting : (ws : List ℕ) → fits ws ≡ true → Fitting ws

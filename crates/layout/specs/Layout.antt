@@ -1,5 +1,5 @@
 -- The machine's state as words: those of each part stand one after the other, in the order written here
-use Rattle.std.specs.Prelude.{Bool, true, false, ◌&&◌, List, [], ◌∷◌, ◌++◌, ℕ, zero, suc, ◌+◌, ◌*◌, ltb, eqb, length, get_or}
+use Rattle.std.specs.Prelude.{Bool, ◌&&◌, List, [], ◌∷◌, ◌++◌, ℕ, zero, suc, ◌+◌, ◌*◌, ltb, eqb, length, get_or, Option, Some, None}
 use Rattle.notation.specs.If.{if}
 use Rattle.notation.specs.Upto.{all_to, list_to}
 use Rattle.word.specs.Word.{bit}
@@ -9,8 +9,7 @@ use Rattle.machine.specs.declared.Regs.{Regs}
 use Rattle.machine.specs.declared.Process.{Process}
 use Rattle.machine.specs.declared.Device.{Device}
 use Rattle.machine.specs.declared.Machine.{Machine}
-use Rattle.machine.specs.State.{proc, gate, ready, device, fresh}
-use Rattle.layout.specs.declared.Unpacked.{Unpacked}
+use Rattle.machine.specs.State.{proc, gate, ready, device}
 
 -- ---- from a machine to words
 -- the words of parts 0, 1, .. and n - 1
@@ -137,8 +136,6 @@ fits ws =
     && bytes (from ws 820) 1
     && ltb (get_or ws 821 0) 2
 
--- the machine of words that fit; a fresh one of an empty header, not known, of others
-unfoldable pub unpacked_if : List ℕ → Unpacked
-unpacked_if ws =
-    if (fits ws) (record { machine = unpacked ws; known = true })
-    (record { machine = fresh (record { edition = 0; length = 0; devices = 0; variables = 0 }); known = false })
+-- the machine of words that fit; of others none
+unfoldable pub unpacked_if : List ℕ → Option Machine
+unpacked_if ws = if (fits ws) (Some (unpacked ws)) None

@@ -1,7 +1,7 @@
 -- Why the code's tests are those of the definitions: what a list gives and takes past its end
-use mathlib.Core.Path.{◌≡◌, refl, sym, ap, ◌∙◌}
+use mathlib.Core.Path.{◌≡◌, refl, ap, ◌∙◌}
 use mathlib.Core.Bool.{Bool, true, false, ◌&&◌, not, and-false, and-true}
-use mathlib.Core.List.{List}
+use mathlib.Core.List.{List, [], ◌∷◌}
 use Prim.Native.Nat.{ℕ, zero, suc, ◌+◌, ◌-◌, ◌≤◌, ◌<◌}
 use native.Mathlib.Omega.{arith}
 use lib.Dec.{leb, ltb}
@@ -10,14 +10,15 @@ use lib.Seq.{set_out}
 use borrow.Author.Tests.{ltb-true, lt-ltb, le-ltb, le-leb, lt-leb, eq-eqb, ne_eqb}
 use borrow.Author.Rules.{rules}
 use Rattle.notation.specs.If.{if}
-use Rattle.notation.proofs.Upto.{both, below?, never, split}
+use Rattle.notation.proofs.Upto.{below?, split}
+use Rattle.std.specs.Prelude.{position, unwrap_or}
+use Rattle.machine.specs.declared.Queue.{Queue}
 use Rattle.machine.specs.declared.Process.{Process}
 use Rattle.machine.specs.declared.Machine.{Machine}
-use Rattle.machine.specs.declared.clock.Waking.{Waking}
-use Rattle.machine.specs.State.{nobody, counted, parts, proc, with_process}
+use Rattle.machine.specs.State.{nobody, parts, proc, with_process}
 use Rattle.machine.specs.Classes.{best, push, selects, wake}
-use Rattle.machine.specs.Clock.{clock_one, clock_wake, bell_one, bell_wake, slice_passes, yields}
-use Rattle.machine.specs.Parts.{aged, one_woken, woken}
+use Rattle.machine.specs.Clock.{clock_one, clock_wake, bell_one, bell_wake}
+use Rattle.machine.specs.Parts.{one_woken, Waking, woken}
 
 -- each test on the way, as the definitions have it
 pub ruleset cases = (rules, lt-ltb, le-ltb, le-leb, lt-leb, eq-eqb, ne_eqb)
@@ -29,11 +30,12 @@ module _ {A : Type 0} (l : List A) (n i : ℕ) (long : length l ≡ n) (out : n 
   pub set_past : (x : A) → set l i x ≡ l
   set_past x = set_out l i x (omega (arith, long, out))
 
-pub ruleset past = (get-past, set_past)
+-- a process that is not there becomes nothing
+pub nobody_becomes : (m : Machine) (h : ℕ) (p : Process) → length m.processes ≡ 10 → nobody ≤ h → m ≡ with_process m h p
+unfolding with_process
+nobody_becomes m h p long l = rw (set_past m.processes 10 h long l p)
 
--- what is read of a part past the end, and a part put back where it stood
-pub read_past : {A B : Type 0} (f : A → B) (l : List A) (n i : ℕ) → length l ≡ n → n ≤ i → (d : A) → f d ≡ f (get_or l i d)
-read_past f l n i long out d = ap f (sym (get-past l n i long out d))
+pub ruleset past = (get-past, set_past, nobody_becomes)
 
 -- what grows by d reaches a limit where it stood d below it
 pub reached : (a b d : ℕ) → a ≤ b → leb (a + d) (b + d) ≡ true
@@ -42,42 +44,15 @@ reached a b d l = le-leb (a + d) (b + d) (omega (arith, l))
 pub not_reached : (a b d : ℕ) → b < a → leb (a + d) (b + d) ≡ false
 not_reached a b d l = lt-leb (a + d) (b + d) (omega (arith, l))
 
--- a test of two parts, where both hold and where one does not
-module _ {A : Type 0} (x y : A) where
-  pub both_hold : (a b : Bool) → a && b ≡ true → x ≡ if a (if b x y) y
-  both_hold true true e = refl
-  both_hold true false e = never (sym e)
-  both_hold false b e = never (sym e)
-
-  pub one-fails : (a b : Bool) → a && b ≡ false → y ≡ if a (if b x y) y
-  one-fails true true e = never e
-  one-fails true false e = refl
-  one-fails false b e = refl
-
--- ---- the slice: the process's record changes, and then, at its end, the process may have to yield
-pub slice_over : (m : Machine) (h : ℕ) → if (leb 190 (proc m h).slice) (yields (with_process (counted m m.count false) h (aged (proc m h))) h) (with_process m h (aged (proc m h))) ≡ slice_passes m h
-unfolding slice_passes
-slice_over m h =
-    below? (proc m h).slice 190
-    (λ l. rw (lt-leb _ _ l, not_reached 190 _ 10 l))
-    (λ l. rw (le-leb _ _ l, reached 190 _ 10 l))
-
--- a mark ends there, told by a test
-pub mark-over : (m : Machine) (h : ℕ) (over : Bool) → over ≡ leb 190 (proc m h).slice
-    → if over (yields (with_process (counted m m.count (m.mark && not over)) h (aged (proc m h))) h) (with_process (counted m m.count (m.mark && not over)) h (aged (proc m h)))
-    ≡ slice_passes m h
-mark-over m h true e = rw (and-false m.mark) (rw (← e) at (slice_over m h))
-mark-over m h false e = rw (and-true m.mark) (rw (← e) at (slice_over m h))
-
 -- ---- the waiters wake one by one; those of the clock and those of the bell do so on the two parts that change
-module _ (n i : ℕ) (ps : List Process) (w : Waking) where
-  pub woken-next : i < n → woken (n - i) ps w ≡ woken (n - (i + 1)) ps (one_woken ps w)
-  unfolding woken
-  woken-next l = let e : n - i ≡ suc (n - (i + 1)) = omega (arith, l) in rw e
+pub woken_next : (n : ℕ) (ps : List Process) (w : Waking) → 0 < n → woken n ps w ≡ woken (n - 1) ps (one_woken ps w)
+unfolding woken
+woken_next zero ps w l = absurd (omega (arith, l))
+woken_next (suc n) ps w l = let e : suc n - 1 ≡ n = omega arith in rw e
 
-  pub woken-over : n ≤ i → woken (n - i) ps w ≡ w
-  unfolding woken
-  woken-over l = let e : n - i ≡ 0 = omega (arith, l) in rw e
+pub woken_over : (n : ℕ) (ps : List Process) (w : Waking) → n ≤ 0 → woken n ps w ≡ w
+unfolding woken
+woken_over n ps w l = let e : n ≡ 0 = omega (arith, l) in rw e
 
 abbrev clock_with : Machine → Waking → Machine
 clock_with m w = parts m m.processes m.gates w.ready w.waiters m.bell m.devices m.running m.created m.made
@@ -85,15 +60,24 @@ clock_with m w = parts m m.processes m.gates w.ready w.waiters m.bell m.devices 
 abbrev bell_with : Machine → Waking → Machine
 bell_with m w = parts m m.processes m.gates w.ready m.clock w.waiters m.devices m.running m.created m.made
 
-pub clock-woken : (n : ℕ) (m : Machine) (w : Waking) → clock_wake n (clock_with m w) ≡ clock_with m (woken n m.processes w)
+pub clock_woken : (n : ℕ) (m : Machine) (w : Waking) → clock_wake n (clock_with m w) ≡ clock_with m (woken n m.processes w)
 unfolding clock_wake clock_one wake push woken one_woken
-clock-woken zero m w = refl
-clock-woken (suc n) m w = clock-woken n m (one_woken m.processes w)
+clock_woken zero m w = refl
+clock_woken (suc n) m w = clock_woken n m (one_woken m.processes w)
 
-pub bell-woken : (n : ℕ) (m : Machine) (w : Waking) → bell_wake n (bell_with m w) ≡ bell_with m (woken n m.processes w)
+pub bell_woken : (n : ℕ) (m : Machine) (w : Waking) → bell_wake n (bell_with m w) ≡ bell_with m (woken n m.processes w)
 unfolding bell_wake bell_one wake push woken one_woken
-bell-woken zero m w = refl
-bell-woken (suc n) m w = bell-woken n m (one_woken m.processes w)
+bell_woken zero m w = refl
+bell_woken (suc n) m w = bell_woken n m (one_woken m.processes w)
+
+module _ (m : Machine) (r : List Queue) (q : Queue) where
+  pub clock_after : woken m.clock.len m.processes (record { ready = m.ready; waiters = m.clock }) ≡ record { ready = r; waiters = q }
+      → clock_wake m.clock.len m ≡ clock_with m (record { ready = r; waiters = q })
+  clock_after e = clock_woken m.clock.len m (record { ready = m.ready; waiters = m.clock }) ∙ ap (clock_with m) e
+
+  pub bell_after : woken m.bell.len m.processes (record { ready = m.ready; waiters = m.bell }) ≡ record { ready = r; waiters = q }
+      → bell_wake m.bell.len m ≡ bell_with m (record { ready = r; waiters = q })
+  bell_after e = bell_woken m.bell.len m (record { ready = m.ready; waiters = m.bell }) ∙ ap (bell_with m) e
 
 -- ---- the selection over nobody, and over the process that runs; it takes a process of a class that is ready
 twice : (b : Bool) → (b && b) ≡ b
@@ -136,13 +120,26 @@ module _ (m : Machine) (b : ℕ) (e : b ≡ best m) where
       (λ l. rw (f, g) (rw (le-ltb m.running 10 l) (and-true _ ∙ over-nobody l)))
 
   -- told by its number and its class
-  pub over-told : (i k c : ℕ) (t : Bool) → m.running ≡ i → (i < 10 → (proc m i).class ≡ k) → m.mark ≡ t → c ≡ if (ltb i 10) (if t 0 k) 3
+  pub over_told : (i k c : ℕ) (t : Bool) → m.running ≡ i → (i < 10 → (proc m i).class ≡ k) → m.mark ≡ t → c ≡ if (ltb i 10) (if t 0 k) 3
       → (ltb b c && ltb b 3) ≡ selects m
-  over-told i k c t r own mark f =
+  over_told i k c t r own mark f =
       over_all c
       (below? i 10
       (λ l. rw (f, r, lt-ltb i 10 l, own l, mark))
       (λ l. rw (f, r, le-ltb i 10 l)))
 
-pub is_ready_lem : (b c : ℕ) → (ltb b c && ltb b 3) ≡ true → b < 3
-is_ready_lem b c e = ltb-true b 3 (both (ltb b c) (ltb b 3) e).1
+-- ---- the best class that is ready is the place of the first queue that has somebody
+abbrev pub place : List Queue → ℕ
+place qs = unwrap_or (position (λ (q : Queue). ltb 0 q.len) qs) 3
+
+pub best_place : (qs : List Queue) → length qs ≡ 3 → (m : Machine) → m.ready ≡ qs → place qs ≡ best m
+unfolding best
+best_place [] e m f = absurd (omega (arith, e))
+best_place (a ∷ []) e m f = absurd (omega (arith, e))
+best_place (a ∷ b ∷ []) e m f = absurd (omega (arith, e))
+best_place (a ∷ b ∷ c ∷ []) e m f =
+    rw f
+    (split (ltb 0 a.len) (λ x. rw x)
+    (λ x. split (ltb 0 b.len) (λ y. rw (x, y))
+    (λ y. split (ltb 0 c.len) (λ z. rw (x, y, z)) (λ z. rw (x, y, z)))))
+best_place (a ∷ b ∷ c ∷ d ∷ qs) e m f = absurd (omega (arith, e))

@@ -1,10 +1,10 @@
 // Ready processes by their classes, and the selection.
-ghost use Rattle.std.specs.Prelude.{◌≡◌, ◌&&◌, ◌<◌, eqb, leb, ltb, get_or, set};
+ghost use Rattle.std.specs.Prelude.{◌≡◌, ◌&&◌, ◌<◌, eqb, leb, ltb, get_or, position, set};
 ghost use Rattle.notation.specs.If.{if};
 ghost use Rattle.machine.specs.declared.Machine.{Machine};
 ghost use Rattle.machine.specs.State.{more, no_process, no_queue, proc};
 ghost use Rattle.machine.specs.Queue.{first, rest};
-ghost use Rattle.machine.specs.Classes.{joined, best, selection, select};
+ghost use Rattle.machine.specs.Classes.{joined, best, selection, select, set_running, wake};
 ghost use Rattle.machine.specs.Parts.{afterwards};
 
 use crate::gates::one_more;
@@ -17,14 +17,12 @@ pub fn joined(mut ready: [Queue; 3], c: u8, h: u8) -> [Queue; 3]
     ensures { result ≡ joined ready c h }
 {
     if c < 3 {
-        let q = ready[c as usize];
-        let more = q.pushed(h);
-        ready[c as usize] = more;
+        ready[usize::from(c)].push(h);
     }
     ready
 }
 
-// What a selection changes: the ready queues, who runs, the count and the mark.
+// What a selection changes: the ready queues, who runs, the count and the mark. Theorems name its fields (exact/specs/Same).
 #[derive(Clone, Copy)]
 pub struct Selection {
     pub ready: [Queue; 3],
@@ -33,31 +31,24 @@ pub struct Selection {
     pub mark: bool,
 }
 
-// The ready queues without the head of class c, and that head; a class that is not there has 0.
-#[derive(Clone, Copy)]
-struct Shorter {
-    ready: [Queue; 3],
-    head: u8,
-}
-
-fn headed(mut ready: [Queue; 3], c: u8) -> Shorter
-    ensures { result ≡ record { ready = set ready c (rest (get_or ready c no_queue)); head = first (get_or ready c no_queue) } }
+// The head of class c is taken off; a class that is not there has 0.
+#[tactic(auto, using(crate::proofs::Laws::past))]
+fn take_head(ready: &mut [Queue; 3], c: u8) -> u8
+    ensures head { result ≡ first (get_or ready.old c no_queue) }
+    ensures less { ready.new ≡ set ready.old c (rest (get_or ready.old c no_queue)) }
 {
-    if 3 <= c {
-        return Shorter { ready, head: 0 };
+    if c < 3 {
+        ready[usize::from(c)].pop()
+    } else {
+        0
     }
-    let q = ready[c as usize];
-    let h = q.at[0];
-    let less = q.rest();
-    ready[c as usize] = less;
-    Shorter { ready, head: h }
 }
 
 // Whether the next selection comes from class 2 by the count.
 fn is_due(third: u8, count: u8) -> bool
     ensures { result ≡ (leb 8 count && ltb 0 third) }
 {
-    (Machine::MOST_COUNT <= count) & (0 < third)
+    Machine::MOST_COUNT <= count && 0 < third
 }
 
 // The count after a selection from class c, where so many stand in class 2.
@@ -74,33 +65,25 @@ fn count_from(third: u8, count: u8, c: u8) -> u8
     count
 }
 
-// The class that the next selection comes from.
-fn source_of(due: bool, best: u8) -> u8
-    ensures { result ≡ if due 2 best }
-{
-    if due { 2 } else { best }
-}
-
 // A selection, where nobody runs.
-fn choose(ready: [Queue; 3], count: u8) -> Selection
+#[tactic(auto, unfolding(crate::specs::Classes::selection, crate::specs::Classes::start, crate::specs::Classes::pull, crate::specs::Classes::set_running, crate::specs::Classes::source, crate::specs::Classes::due, crate::specs::Classes::count_from))]
+fn choose(mut ready: [Queue; 3], count: u8) -> Selection
     ensures { (m : Machine) → m.ready ≡ ready → m.count ≡ count → afterwards m result ≡ selection m }
 {
-    let third = ready[2];
-    let due = is_due(third.len, count);
-    let best = best_of(ready);
-    let c = source_of(due, best);
-    let now = count_from(third.len, count, c);
-    let x = headed(ready, c);
-    let less = x.ready;
+    let third = ready[2].len;
+    let mark = is_due(third, count);
+    let c = if mark { 2 } else { best_of(ready) };
+    let running = take_head(&mut ready, c);
     Selection {
-        ready: less,
-        running: x.head,
-        count: now,
-        mark: due,
+        ready,
+        running,
+        count: count_from(third, count, c),
+        mark,
     }
 }
 
 // What a ready class is compared with, where process i runs, of this class: 3 is nobody's, and no class comes before a mark.
+#[tactic(auto, using(crate::proofs::Laws::cases))]
 fn class_over(i: u8, class: u8, mark: bool) -> u8
     ensures { result ≡ if (ltb i 10) (if mark 0 class) 3 }
 {
@@ -112,6 +95,7 @@ fn class_over(i: u8, class: u8, mark: bool) -> u8
 }
 
 // A running process goes to the tail of its own class.
+#[tactic(auto, using(crate::proofs::Laws::cases))]
 fn aside(ready: [Queue; 3], i: u8, class: u8) -> [Queue; 3]
     ensures { result ≡ if (ltb i 10) (joined ready class i) ready }
 {
@@ -126,75 +110,81 @@ fn aside(ready: [Queue; 3], i: u8, class: u8) -> [Queue; 3]
 pub fn selected(ready: [Queue; 3], i: u8, class: u8, count: u8, mark: bool) -> Selection
     ensures { (m : Machine) → m.ready ≡ ready → m.running ≡ i → (i < 10 → (proc m i).class ≡ class) → m.count ≡ count → m.mark ≡ mark → afterwards m result ≡ select m }
 {
-    let over = class_over(i, class, mark);
-    let best = best_of(ready);
-    let now = displaces(best, over);
-    if !now {
-        return Selection {
-            ready,
-            running: i,
-            count,
-            mark,
-        };
+    if is_better_ready(ready, class_over(i, class, mark)) {
+        return choose(aside(ready, i, class), count);
     }
-    choose(aside(ready, i, class), count)
+    Selection {
+        ready,
+        running: i,
+        count,
+        mark,
+    }
 }
 
 // The class of process i; one that is not there has class 0.
-pub fn class_of(processes: [Process; Machine::PROCESSES as usize], i: u8) -> u8
-    ensures { result ≡ (get_or processes i no_process).class }
+pub fn class_of(processes: &[Process; Machine::PROCESSES as usize], i: u8) -> u8
+    ensures { result ≡ (get_or processes.now i no_process).class }
 {
-    if i < Machine::PROCESSES {
-        let p = processes[i as usize];
-        p.class
-    } else {
-        0
-    }
+    processes.get(usize::from(i)).map_or(0, |p| p.class)
 }
 
 impl Machine {
-    // A strictly better class that is ready displaces the running process.
+    // Nobody runs; no mark outlives who ran.
+    #[tactic(auto, unfolding(crate::specs::Classes::set_running))]
+    pub(crate) fn run_nobody(&mut self)
+        ensures { self.new ≡ set_running self.old 10 }
+    {
+        self.running = Machine::NOBODY;
+        self.mark = false;
+    }
+
+    // Woken processes and new holders join the tail of their class.
+    #[tactic(auto, unfolding(crate::specs::Classes::wake, crate::specs::Classes::push))]
+    pub(crate) fn wake(&mut self, h: u8)
+        ensures { self.new ≡ wake self.old h }
+    {
+        let ready = joined(self.ready, class_of(&self.processes, h), h);
+        self.ready = ready;
+    }
+
+    // The selection by value, as document 01 asks for it.
     pub fn select(mut self) -> Machine
         ensures { result ≡ select self }
     {
-        let i = self.running;
-        let processes = self.processes;
-        let class = class_of(processes, i);
-        let ready = self.ready;
-        let x = selected(ready, i, class, self.count, self.mark);
-        let now = x.ready;
-        self.ready = now;
-        self.running = x.running;
-        self.count = x.count;
-        self.mark = x.mark;
+        self.choose_next();
         self
+    }
+
+    // A strictly better class that is ready displaces the running process.
+    pub(crate) fn choose_next(&mut self)
+        ensures { self.new ≡ select self.old }
+    {
+        let class = class_of(&self.processes, self.running);
+        let Selection {
+            ready,
+            running,
+            count,
+            mark,
+        } = selected(self.ready, self.running, class, self.count, self.mark);
+        self.ready = ready;
+        self.running = running;
+        self.count = count;
+        self.mark = mark;
     }
 }
 
-// The best class that is ready, or 3.
-#[tactic(auto, using(crate::proofs::Laws::cases), unfolding(crate::specs::Classes::best))]
+// The best class that is ready.
+fn first_ready(queues: &[Queue]) -> Option<usize>
+    ensures { result ≡ position (λ q. ltb 0 q.len) queues.now }
+{
+    queues.iter().position(|q| 0 < q.len)
+}
+
+// Its number, or 3: the definitions compare any class with it, where a slice ends too.
 pub(crate) fn best_of(queues: [Queue; 3]) -> u8
     ensures { (m : Machine) → m.ready ≡ queues → result ≡ best m }
 {
-    let first = queues[0];
-    let second = queues[1];
-    let third = queues[2];
-    if 0 < first.len {
-        0
-    } else if 0 < second.len {
-        1
-    } else if 0 < third.len {
-        2
-    } else {
-        3
-    }
-}
-
-// Whether the best class that is ready comes before a process of a class, or before nobody: 3.
-fn displaces(best: u8, class: u8) -> bool
-    ensures { result ≡ (ltb best class && ltb best 3) }
-{
-    (best < class) & (best < 3)
+    first_ready(&queues).unwrap_or(3) as u8
 }
 
 // Whether a class that comes before this one is ready; 3 is nobody's.
@@ -202,5 +192,5 @@ pub fn is_better_ready(ready: [Queue; 3], class: u8) -> bool
     ensures { (m : Machine) → m.ready ≡ ready → result ≡ (ltb (best m) class && ltb (best m) 3) }
 {
     let best = best_of(ready);
-    displaces(best, class)
+    best < class && best < 3
 }

@@ -1,15 +1,12 @@
 // Gates: enter, leave, delay, continue, new gate.
-ghost use Rattle.std.specs.Prelude.{◌≡◌, ◌-◌, leb, ltb, get_or, set};
+ghost use Rattle.std.specs.Prelude.{◌≡◌, leb, get_or, set};
 ghost use Rattle.notation.specs.If.{if};
 ghost use Rattle.machine.specs.State.{more, no_gate};
-ghost use Rattle.machine.specs.Gate.{entered, given, grant, enter, leave, delay, continue, make_gate};
-ghost use Rattle.machine.specs.Parts.{handed_on, resumed, lost_gate, hand_over};
+ghost use Rattle.machine.specs.Gate.{entered, given, grant, give_up, sit, pass, hand_on, enter, leave, delay, continue, make_gate};
 
-use crate::classes::joined;
-use crate::queues::less;
 use crate::{Gate, Machine, Process, Queue};
 
-// Giving up the last gate held makes the class 2.
+// Giving up the last gate held makes the class 2. Beside `fallen`: another test, other classes.
 #[tactic(auto, using(crate::proofs::Laws::cases))]
 fn class_without(holds: u8) -> u8
     ensures { result ≡ if (leb holds 1) 2 0 }
@@ -18,244 +15,197 @@ fn class_without(holds: u8) -> u8
 }
 
 impl Process {
-    // With g as the latest gate entered, for which a sound state has room.
-    fn entered(mut self, g: u8) -> Process
-        ensures { result ≡ entered self g }
+    // g is the latest gate entered, for which a sound state has room.
+    #[tactic(auto, using(crate::proofs::Laws::cases), unfolding(crate::specs::Gate::entered))]
+    fn enter(&mut self, g: u8)
+        ensures { self.new ≡ entered self.old g }
     {
-        let n = self.holds;
-        if n < Machine::HELD {
-            self.held[n as usize] = g;
-            self.holds = n + 1;
+        if self.holds < Machine::HELD {
+            self.held[usize::from(self.holds)] = g;
+            self.holds += 1;
             self.class = 0;
         }
-        self
     }
 
-    // Without the latest gate entered.
-    fn given(mut self) -> Process
-        ensures { result ≡ given self }
+    // The latest gate entered is given up.
+    #[tactic(auto, unfolding(crate::specs::Gate::given))]
+    fn give_up(&mut self)
+        ensures { self.new ≡ given self.old }
     {
-        let n = self.holds;
-        self.class = class_without(n);
-        self.holds = less(n);
-        self
+        self.class = class_without(self.holds);
+        self.holds = self.holds.saturating_sub(1);
     }
-}
-
-// What becomes of a gate that is given up, and whether somebody holds it next.
-#[derive(Clone, Copy)]
-struct Handed {
-    gate: Gate,
-    passes: bool,
 }
 
 impl Gate {
+    pub const OPEN: Gate = Gate {
+        holder: Machine::NOBODY,
+        queue: Queue::EMPTY,
+        cells: [Machine::NOBODY; Machine::CELLS as usize],
+    };
+
     // Who sits in cell c; in one that is not there, 0.
     #[tactic(auto, using(crate::proofs::Laws::past))]
     pub fn cell(self, c: u8) -> u8
         ensures { result ≡ get_or self.cells c 0 }
     {
-        let cells = self.cells;
         if c <= Machine::LAST_CELL {
-            cells[c as usize]
+            self.cells[usize::from(c)]
         } else {
             0
         }
     }
 
-    fn seat(mut self, c: u8, x: u8) -> Gate
-        ensures { result ≡ record { holder = self.holder; queue = self.queue; cells = set self.cells c x } }
+    // One guarded write, as of a device or of a process's end in moves: of another part each, and no line is shared.
+    #[tactic(auto, using(crate::proofs::Laws::past))]
+    fn seat(&mut self, c: u8, x: u8)
+        ensures { self.new ≡ record { holder = self.old.holder; queue = self.old.queue; cells = set self.old.cells c x } }
     {
         if c < Machine::CELLS {
-            self.cells[c as usize] = x;
-        }
-        self
-    }
-
-    // The first waiter holds, else the gate opens.
-    #[tactic(auto, using(crate::proofs::Laws::cases), unfolding(crate::specs::Parts::handed_on))]
-    fn handed_on(mut self) -> Handed
-        ensures { result ≡ handed_on self }
-    {
-        let q = self.queue;
-        if q.len == 0 {
-            self.holder = Machine::NOBODY;
-            return Handed {
-                gate: self,
-                passes: false,
-            };
-        }
-        let h = q.at[0];
-        let less = q.rest();
-        self.holder = h;
-        self.queue = less;
-        Handed {
-            gate: self,
-            passes: true,
-        }
-    }
-
-    // The process in the cell holds, before all that wait, or if the cell is empty, as in leave.
-    fn resumed(self, c: u8) -> Handed
-        ensures { result ≡ resumed self c }
-    {
-        let h = self.cell(c);
-        if Machine::NOBODY <= h {
-            return self.handed_on();
-        }
-        let mut w = self.seat(c, Machine::NOBODY);
-        w.holder = h;
-        Handed {
-            gate: w,
-            passes: true,
+            self.cells[usize::from(c)] = x;
         }
     }
 }
 
-// One that is not there has no waiter, and process 0 in each cell.
-fn gate_of(gates: [Gate; Machine::GATES as usize], g: u8) -> Gate
-    ensures { result ≡ if (ltb g 25) (get_or gates g no_gate) lost_gate }
+// Who sits in cell c of g; in what is not there, 0.
+fn cell_of(gates: &[Gate; Machine::GATES as usize], g: u8, c: u8) -> u8
+    ensures { result ≡ get_or (get_or gates.now g no_gate).cells c 0 }
 {
-    if g < Machine::GATES {
-        gates[g as usize]
-    } else {
-        Gate {
-            holder: 0,
-            queue: Queue {
-                len: 0,
-                at: [0; Machine::PROCESSES as usize],
-            },
-            cells: [0; Machine::CELLS as usize],
-        }
-    }
+    gates.get(usize::from(g)).map_or(0, |w| w.cell(c))
 }
 
 impl Machine {
-    // ---- a process and a gate change in one function, in place: each function that indexes the machine keeps a copy of it
+    // ---- in place: a function that is given the machine by value, and indexes it, keeps a copy of it
     // h becomes holder of g.
-    fn grant(mut self, g: u8, h: u8) -> Machine
-        ensures { result ≡ grant self g h }
+    #[tactic(auto, using(crate::proofs::Laws::past), unfolding(crate::specs::Gate::grant, crate::specs::State::with_process))]
+    fn grant(&mut self, g: u8, h: u8)
+        ensures { self.new ≡ grant self.old g h }
     {
         if h < Machine::PROCESSES {
-            let p = self.processes[h as usize];
-            let more = p.entered(g);
-            self.processes[h as usize] = more;
+            self.processes[usize::from(h)].enter(g);
         }
         if g < Machine::GATES {
-            let mut w = self.gates[g as usize];
-            w.holder = h;
-            self.gates[g as usize] = w;
+            self.gates[usize::from(g)].holder = h;
         }
-        self
     }
 
-    // i gives g up, which becomes what it was handed on as; who holds it next is ready.
-    fn hand_over(mut self, g: u8, i: u8, x: Handed) -> Machine
-        ensures { result ≡ hand_over self g i x }
+    // h gives g up, which nobody holds. Beside grant: each is one definition, and a shared one would be told the holder and the change.
+    #[tactic(auto, using(crate::proofs::Laws::past), unfolding(crate::specs::Gate::give_up, crate::specs::State::with_process))]
+    fn give_up(&mut self, g: u8, h: u8)
+        ensures { self.new ≡ give_up self.old g h }
     {
-        if i < Machine::PROCESSES {
-            let p = self.processes[i as usize];
-            let fewer = p.given();
-            self.processes[i as usize] = fewer;
-        }
-        let w = x.gate;
-        if g < Machine::GATES {
-            self.gates[g as usize] = w;
-        }
-        if !x.passes {
-            return self;
-        }
-        let h = w.holder;
-        let mut class: u8 = 0;
         if h < Machine::PROCESSES {
-            let p = self.processes[h as usize];
-            let more = p.entered(g);
-            self.processes[h as usize] = more;
-            class = more.class;
+            self.processes[usize::from(h)].give_up();
         }
-        let ready = self.ready;
-        let now = joined(ready, class, h);
-        self.ready = now;
-        self
+        if g < Machine::GATES {
+            self.gates[usize::from(g)].holder = Machine::NOBODY;
+        }
+    }
+
+    // x sits in cell c of g.
+    #[tactic(auto, using(crate::proofs::Laws::past), unfolding(crate::specs::Gate::sit))]
+    fn sit(&mut self, g: u8, c: u8, x: u8)
+        ensures { self.new ≡ sit self.old g c x }
+    {
+        if g < Machine::GATES {
+            self.gates[usize::from(g)].seat(c, x);
+        }
+    }
+
+    // A process that waited or sat holds g, and is ready.
+    #[tactic(auto, unfolding(crate::specs::Gate::pass))]
+    fn pass(&mut self, g: u8, h: u8)
+        ensures { self.new ≡ pass self.old g h }
+    {
+        self.grant(g, h);
+        self.wake(h);
+    }
+
+    // The first waiter holds, else the gate, given up before, is open.
+    #[tactic(auto, using(crate::proofs::Laws::cases, crate::proofs::Laws::past), unfolding(crate::specs::Gate::hand_on, crate::specs::Gate::advance))]
+    fn hand_on(&mut self, g: u8)
+        ensures { self.new ≡ hand_on self.old g }
+    {
+        if g < Machine::GATES && self.gates[usize::from(g)].queue.len != 0 {
+            let h = self.gates[usize::from(g)].queue.pop();
+            self.pass(g, h);
+        }
     }
 
     // ---- the operations of the running process, where no fault forbids them
     // Open, the caller holds it; shut, the caller waits last.
-    #[tactic(auto, using(crate::proofs::Laws::cases, crate::proofs::Laws::past, crate::proofs::Parts::nobody_becomes), unfolding(crate::specs::Gate::enter, crate::specs::Gate::join, crate::specs::Gate::grant, crate::specs::Classes::set_running, crate::specs::State::with_process))]
+    #[tactic(auto, using(crate::proofs::Laws::cases, crate::proofs::Laws::past), unfolding(crate::specs::Gate::enter, crate::specs::Gate::join, crate::specs::Classes::set_running))]
     pub fn enter(mut self, g: u8) -> Machine
         ensures { result ≡ enter self g }
     {
         let i = self.running;
+        if g < Machine::GATES {
+            let w = &mut self.gates[usize::from(g)];
+            if Machine::NOBODY <= w.holder {
+                self.grant(g, i);
+                return self;
+            }
+            w.queue.push(i);
+        }
         // a gate that is not there has a holder, 0: the caller waits
-        if Machine::GATES <= g {
-            self.running = Machine::NOBODY;
-            self.mark = false;
-            return self;
-        }
-        let mut w = self.gates[g as usize];
-        if w.holder < Machine::NOBODY {
-            let q = w.queue;
-            let last = q.pushed(i);
-            w.queue = last;
-            self.gates[g as usize] = w;
-            self.running = Machine::NOBODY;
-            self.mark = false;
-            return self;
-        }
-        if i < Machine::PROCESSES {
-            let p = self.processes[i as usize];
-            let more = p.entered(g);
-            self.processes[i as usize] = more;
-        }
-        w.holder = i;
-        self.gates[g as usize] = w;
+        self.run_nobody();
         self
     }
 
     // The first waiter holds, else the gate opens.
-    pub fn leave(self, g: u8) -> Machine
+    #[tactic(auto, unfolding(crate::specs::Gate::leave))]
+    pub fn leave(mut self, g: u8) -> Machine
         ensures { result ≡ leave self g }
     {
         let i = self.running;
-        let gates = self.gates;
-        let w = gate_of(gates, g);
-        self.hand_over(g, i, w.handed_on())
+        self.give_up(g, i);
+        self.hand_on(g);
+        self
     }
 
     // The caller sits in the cell, and the gate is given up as in leave.
+    #[tactic(auto, unfolding(crate::specs::Gate::delay, crate::specs::Classes::set_running))]
     pub fn delay(mut self, g: u8, c: u8) -> Machine
         ensures { result ≡ delay self g c }
     {
         let i = self.running;
-        self.running = Machine::NOBODY;
-        self.mark = false;
-        let gates = self.gates;
-        let w = gate_of(gates, g);
-        self.hand_over(g, i, w.seat(c, i).handed_on())
+        self.run_nobody();
+        self.give_up(g, i);
+        self.sit(g, c, i);
+        self.hand_on(g);
+        self
     }
 
     // The caller is out; the process in the cell holds, before all that wait, or if the cell is empty, as in leave.
-    pub fn continue_cell(self, g: u8, c: u8) -> Machine
+    pub fn continue_cell(mut self, g: u8, c: u8) -> Machine
         ensures { result ≡ continue self g c }
     {
+        let h = cell_of(&self.gates, g, c);
+        if Machine::NOBODY <= h {
+            return self.leave(g);
+        }
         let i = self.running;
-        let gates = self.gates;
-        let w = gate_of(gates, g);
-        self.hand_over(g, i, w.resumed(c))
+        self.give_up(g, i);
+        self.sit(g, c, Machine::NOBODY);
+        self.pass(g, h);
+        self
     }
 
     // A new gate, shut and held by the caller.
+    #[tactic(auto, unfolding(crate::specs::Gate::make_gate))]
     pub fn make_gate(mut self) -> Machine
         ensures { result ≡ make_gate self }
     {
         let g = self.made;
         let i = self.running;
         self.made = one_more(g, Machine::GATES);
-        self.grant(g, i)
+        self.grant(g, i);
+        self
     }
 }
 
 // One more of what there are at most k of.
+#[tactic(auto, using(crate::proofs::Laws::cases))]
 pub(crate) fn one_more(x: u8, k: u8) -> u8
     ensures { result ≡ more x k }
 {

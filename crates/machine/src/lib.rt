@@ -12,6 +12,8 @@ ghost use Rattle.machine.specs.State.{started, fresh};
 pub use classes::{Selection, class_of, is_better_ready, joined, selected};
 use image::Header;
 
+// The state's numbers, lengths and flags are those that the definitions, the theorems and the state's words speak of (specs/State,
+// specs/Sound; the crate layout): nobody is the number 10 and no Option, and a length stands beside its places.
 // Processes in order: the first len of at.
 #[derive(Clone, Copy)]
 pub struct Queue {
@@ -89,6 +91,7 @@ pub struct Machine {
 
 impl Process {
     // A process as it starts: at an address, with its variables, its stack empty.
+    #[tactic(auto, unfolding(crate::specs::State::started))]
     pub fn started(address: u16, variables: u16) -> Process
         ensures { result ≡ started address variables }
     {
@@ -115,6 +118,14 @@ impl Process {
             ended: false,
         }
     }
+}
+
+impl Device {
+    pub const IDLE: Device = Device {
+        process: Machine::NOBODY,
+        operation: 0,
+        address: 0,
+    };
 }
 
 impl Machine {
@@ -180,33 +191,19 @@ impl Machine {
     pub const MOST_CODE: usize = Header::MOST_LENGTH as usize;
 
     // The machine after loading: process 0 runs, and nothing else is there.
+    #[tactic(auto, unfolding(crate::specs::State::fresh))]
     pub fn fresh(header: Header) -> Machine
         ensures { result ≡ fresh header }
     {
-        let none = Queue {
-            len: 0,
-            at: [0; Machine::PROCESSES as usize],
-        };
-        let open = Gate {
-            holder: Machine::NOBODY,
-            queue: none,
-            cells: [Machine::NOBODY; Machine::CELLS as usize],
-        };
-        let idle = Device {
-            process: Machine::NOBODY,
-            operation: 0,
-            address: 0,
-        };
-        let unused = Process::started(0, 0);
-        let mut processes = [unused; Machine::PROCESSES as usize];
+        let mut processes = [Process::started(0, 0); Machine::PROCESSES as usize];
         processes[0] = Process::started(0, header.variables);
         Machine {
             processes,
-            gates: [open; Machine::GATES as usize],
-            ready: [none; 3],
-            clock: none,
-            bell: none,
-            devices: [idle; 5],
+            gates: [Gate::OPEN; Machine::GATES as usize],
+            ready: [Queue::EMPTY; 3],
+            clock: Queue::EMPTY,
+            bell: Queue::EMPTY,
+            devices: [Device::IDLE; 5],
             running: 0,
             created: 1,
             made: 0,

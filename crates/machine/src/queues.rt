@@ -1,36 +1,37 @@
-// A queue of processes: one more last, without its first.
-ghost use Rattle.std.specs.Prelude.{◌≡◌, ◌-◌};
-ghost use Rattle.machine.specs.Queue.{pushed, rest};
+// A queue of processes: one more last, the first taken off.
+ghost use Rattle.std.specs.Prelude.{◌≡◌};
+ghost use Rattle.machine.specs.Queue.{first, pushed, rest};
 
 use crate::{Machine, Queue};
 
-// One less, but never below 0.
-pub(crate) fn less(n: u8) -> u8
-    ensures { result ≡ n - 1 }
-{
-    if n == 0 { 0 } else { n - 1 }
-}
-
 impl Queue {
+    pub const EMPTY: Queue = Queue {
+        len: 0,
+        at: [0; Machine::PROCESSES as usize],
+    };
+
     // x joins the tail, where a tenth has room.
-    pub(crate) fn pushed(mut self, x: u8) -> Queue
-        ensures { result ≡ pushed self x }
+    #[tactic(auto, using(crate::proofs::Laws::cases), unfolding(crate::specs::Queue::pushed))]
+    pub(crate) fn push(&mut self, x: u8)
+        ensures { self.new ≡ pushed self.old x }
     {
-        let n = self.len;
-        if n < Machine::PROCESSES {
-            self.at[n as usize] = x;
-            self.len = n + 1;
+        if self.len < Machine::PROCESSES {
+            self.at[usize::from(self.len)] = x;
+            self.len += 1;
         }
-        self
     }
 
-    // The first is out, and each stands one place further on.
-    pub(crate) fn rest(self) -> Queue
-        ensures { result ≡ rest self }
+    // The first is out, and each stands one place further on. It is asked of a queue that has somebody, as the definitions `first` and
+    // `rest` are, so its answer is a number.
+    #[tactic(auto, unfolding(crate::specs::Queue::rest))]
+    pub(crate) fn pop(&mut self) -> u8
+        ensures first { result ≡ first self.old }
+        ensures rest { self.new ≡ rest self.old }
     {
-        let len = less(self.len);
-        let a = self.at;
-        let at = [a[1], a[2], a[3], a[4], a[5], a[6], a[7], a[8], a[9], 0];
-        Queue { len, at }
+        let head = self.at[0];
+        self.at.copy_within(1.., 0);
+        self.at[9] = 0;
+        self.len = self.len.saturating_sub(1);
+        head
     }
 }

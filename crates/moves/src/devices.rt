@@ -1,15 +1,13 @@
 // Devices: how one starts, and how one ends.
-ghost use Rattle.std.specs.Prelude.{◌≡◌, eqb};
+ghost use Rattle.std.specs.Prelude.{◌≡◌, eqb, get_or, set};
 ghost use Rattle.notation.specs.If.{if};
-ghost use Rattle.machine.specs.State.{proc, device};
-ghost use Rattle.machine.specs.Classes.{set_class};
-ghost use Rattle.machine.specs.Device.{with_device, device_start, device_end};
+ghost use Rattle.machine.specs.State.{no_process, with_class};
+ghost use Rattle.machine.specs.Device.{device_start, device_end};
 
-use crate::asked::holds_of;
 use crate::ready::{set_running, wake};
-use machine::{Device, Machine};
+use machine::{Device, Machine, Process};
 
-// Class 1, but 0 while holding a gate.
+// Class 1, but 0 while holding a gate. Beside the machine's `class_without`: another test, other classes.
 #[tactic(auto, using(machine::proofs::Laws::cases))]
 fn class_after(holds: u8) -> u8
     ensures { result ≡ if (eqb holds 0) 1 0 }
@@ -17,43 +15,19 @@ fn class_after(holds: u8) -> u8
     if holds == 0 { 1 } else { 0 }
 }
 
-// The device of a number; one that is not there is all zero.
-fn device_of(m: Machine, d: u8) -> Device
-    ensures { result ≡ device m d }
+// Of a device that is not there nothing changes. A guarded write, as set_ended's, of another part.
+#[tactic(auto, using(machine::proofs::Laws::past))]
+fn put(devices: &mut [Device; 5], d: u8, x: Device)
+    ensures { devices.new ≡ set devices.old d x }
 {
     if d < 5 {
-        m.devices[d as usize]
-    } else {
-        Device {
-            process: 0,
-            operation: 0,
-            address: 0,
-        }
+        devices[usize::from(d)] = x;
     }
-}
-
-fn with_device(mut m: Machine, d: u8, x: Device) -> Machine
-    ensures { result ≡ with_device m d x }
-{
-    if d < 5 {
-        m.devices[d as usize] = x;
-    }
-    m
-}
-
-fn set_class(mut m: Machine, h: u8, c: u8) -> Machine
-    ensures { result ≡ set_class m h c }
-{
-    if h < Machine::PROCESSES {
-        let mut p = m.processes[h as usize];
-        p.class = c;
-        m.processes[h as usize] = p;
-    }
-    m
 }
 
 // The caller waits and the device starts: the operation and the record's address are kept.
-pub fn device_start(m: Machine, d: u8, operation: u8, address: u16) -> Machine
+#[tactic(auto, using(machine::proofs::Laws::past), unfolding(machine::specs::Device::device_start, machine::specs::Device::with_device))]
+pub fn device_start(mut m: Machine, d: u8, operation: u8, address: u16) -> Machine
     ensures { result ≡ device_start m d operation address }
 {
     let x = Device {
@@ -61,22 +35,32 @@ pub fn device_start(m: Machine, d: u8, operation: u8, address: u16) -> Machine
         operation,
         address,
     };
-    with_device(set_running(m, Machine::NOBODY), d, x)
+    set_running(&mut m, Machine::NOBODY);
+    put(&mut m.devices, d, x);
+    m
 }
 
-// Class 1 after a device ends, but 0 while holding a gate; the process wakes.
-pub fn device_end(m: Machine, d: u8) -> Machine
+// The class of h after its device ended.
+#[tactic(auto, using(machine::proofs::Laws::past))]
+fn set_class_after(processes: &mut [Process; Machine::PROCESSES as usize], h: u8)
+    ensures { processes.new ≡ set processes.old h (with_class (get_or processes.old h no_process) (if (eqb (get_or processes.old h no_process).holds 0) 1 0)) }
+{
+    if h < Machine::PROCESSES {
+        let holds = processes[usize::from(h)].holds;
+        processes[usize::from(h)].class = class_after(holds);
+    }
+}
+
+// Class 1 after a device ends, but 0 while holding a gate; the process wakes. Of a device that is not there it is process 0.
+#[tactic(auto, using(machine::proofs::Laws::past), unfolding(machine::specs::Device::device_end, machine::specs::Device::with_device, machine::specs::Classes::set_class, machine::specs::State::with_process))]
+pub fn device_end(mut m: Machine, d: u8) -> Machine
     ensures { result ≡ device_end m d }
 {
-    let x = device_of(m, d);
-    let h = x.process;
-    let processes = m.processes;
-    let holds = holds_of(processes, h);
-    let class = class_after(holds);
-    let free = Device {
-        process: Machine::NOBODY,
-        operation: x.operation,
-        address: x.address,
-    };
-    wake(set_class(with_device(m, d, free), h, class), h)
+    let h = m.devices.get(usize::from(d)).map_or(0, |x| x.process);
+    if d < 5 {
+        m.devices[usize::from(d)].process = Machine::NOBODY;
+    }
+    set_class_after(&mut m.processes, h);
+    wake(&mut m, h);
+    m
 }

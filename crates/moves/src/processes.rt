@@ -1,98 +1,123 @@
 // Processes: a new one, the end of one, a stop for a job.
-ghost use Rattle.std.specs.Prelude.{◌≡◌, ◌||◌, not, ◌<◌, eqb, ltb, set};
+ghost use Rattle.std.specs.Prelude.{◌≡◌, ◌||◌, not, eqb, ltb, get_or, set};
 ghost use Rattle.notation.specs.If.{if};
 ghost use Rattle.machine.specs.declared.Machine.{Machine};
-ghost use Rattle.machine.specs.State.{proc, with_process};
-ghost use Rattle.machine.specs.Classes.{push};
-ghost use Rattle.machine.specs.Call.{born, create_process, over, finish, stop_answer, stop_job};
+ghost use Rattle.machine.specs.State.{more, no_process, started};
+ghost use Rattle.machine.specs.Call.{create_process, over, finish, stop_answer, stop_job};
+ghost use Rattle.moves.specs.Stop.{number_of, answered};
 
-use crate::ready::{push, set_running, wake};
-use machine::{Machine, Process, Regs};
-
-fn wide(x: u8) -> u16
-    ensures { result ≡ x }
-{
-    x as u16
-}
+use crate::ready::{set_running, wake};
+use machine::{Machine, Process};
 
 // ---- call 3
 // The child's record, as process 0 started; of an eleventh there is none.
-fn born(mut m: Machine, t: u16, v: u16) -> Machine
-    ensures { result ≡ born m t v }
+#[tactic(auto, using(machine::proofs::Laws::cases, machine::proofs::Laws::past))]
+fn born(processes: &mut [Process; Machine::PROCESSES as usize], created: &mut u8, t: u16, v: u16)
+    ensures child { processes.new ≡ set processes.old created.old (started t v) }
+    ensures one_more { created.new ≡ more created.old 10 }
 {
-    let child = m.created;
-    if child < Machine::PROCESSES {
-        let p = Process::started(t, v);
-        m.processes[child as usize] = p;
-        m.created = child + 1;
-    }
-    m
-}
-
-// The child joins class 2; of an eleventh there is no record, and its class is 0.
-fn place_child(m: Machine, child: u8) -> Machine
-    ensures { result ≡ push m (if (ltb child 10) 2 0) child }
-{
-    if child < Machine::PROCESSES {
-        push(m, 2, child)
-    } else {
-        push(m, 0, child)
+    if *created < Machine::PROCESSES {
+        processes[usize::from(*created)] = Process::started(t, v);
+        *created += 1;
     }
 }
 
-// The parent goes to the tail of its class, and the child is placed. Its record is written last, in place: where a plain field
-// is, the optimiser takes the machine apart, and copies it once more.
-pub fn create_process(m: Machine, t: u16, v: u16) -> Machine
+// The parent goes to the tail of its class, and the child to the tail of class 2, in which it starts.
+#[tactic(auto, unfolding(machine::specs::Call::create_process, machine::specs::Call::born))]
+pub fn create_process(mut m: Machine, t: u16, v: u16) -> Machine
     ensures { result ≡ create_process m t v }
 {
     let parent = m.running;
     let child = m.created;
-    let placed = place_child(wake(set_running(m, Machine::NOBODY), parent), child);
-    born(placed, t, v)
+    set_running(&mut m, Machine::NOBODY);
+    wake(&mut m, parent);
+    born(&mut m.processes, &mut m.created, t, v);
+    wake(&mut m, child);
+    m
 }
 
 // ---- call 4
-pub fn finish(m: Machine) -> Machine
+#[tactic(auto, unfolding(machine::specs::Call::finish, machine::specs::Classes::set_running, machine::specs::State::with_process))]
+pub fn finish(mut m: Machine) -> Machine
     ensures { result ≡ finish m }
 {
     let i = m.running;
-    set_ended(set_running(m, Machine::NOBODY), i)
+    set_running(&mut m, Machine::NOBODY);
+    set_ended(&mut m.processes, i);
+    m
 }
 
-fn set_ended(mut m: Machine, h: u8) -> Machine
-    ensures { result ≡ with_process m h (over (proc m h)) }
+#[tactic(auto, using(machine::proofs::Laws::past))]
+fn set_ended(processes: &mut [Process; Machine::PROCESSES as usize], h: u8)
+    ensures { processes.new ≡ set processes.old h (over (get_or processes.old h no_process)) }
 {
     if h < Machine::PROCESSES {
-        let mut p = m.processes[h as usize];
-        p.ended = true;
-        m.processes[h as usize] = p;
+        processes[usize::from(h)].ended = true;
     }
-    m
 }
 
 // ---- call 5
-// Where the answer is 0, the job of process q has a stop pending.
+// Why call 5 stops no job.
+#[derive(Clone, Copy)]
+enum NotStopped {
+    NoProcess = 1,
+    NoJob = 2,
+    Reason = 3,
+    Already = 4,
+}
+
+impl From<NotStopped> for u16 {
+    ghost from_gives = { λ e n. n ≡ number_of e };
+
+    fn from(e: NotStopped) -> u16 {
+        e as u16
+    }
+}
+
+// Whether the job of process q may be stopped; of a process that is not there, there is no job.
+#[tactic(auto, using(machine::proofs::Laws::cases, machine::proofs::Laws::past), unfolding(machine::specs::Call::stop_answer))]
+fn check_stop(
+    processes: &[Process; Machine::PROCESSES as usize],
+    created: u8,
+    q: u16,
+    reason: u16,
+) -> Result<(), NotStopped>
+    ensures { (m : Machine) → m.processes ≡ processes.now → m.created ≡ created → answered result ≡ stop_answer m q reason }
+{
+    if u16::from(created) <= q {
+        return Err(NotStopped::NoProcess);
+    }
+    let Some(p) = processes.get(usize::from(q)) else {
+        return Err(NotStopped::NoJob);
+    };
+    let r = p.regs;
+    if !r.in_job {
+        return Err(NotStopped::NoJob);
+    }
+    if !(Machine::FIRST_REASON..=Machine::LAST_REASON).contains(&reason) {
+        return Err(NotStopped::Reason);
+    }
+    if r.reason != 0 {
+        return Err(NotStopped::Already);
+    }
+    Ok(())
+}
+
+// Where nothing forbids it, the job of process q has a stop pending.
+#[tactic(auto, using(machine::proofs::Laws::cases, machine::proofs::Laws::past), unfolding(machine::specs::Call::stop_job, machine::specs::State::with_process))]
 pub fn stop_job(mut m: Machine, q: u16, reason: u16) -> Machine
     ensures { result ≡ stop_job m q reason }
 {
-    // of a process that is not there nothing changes
-    let there = (q < wide(m.created)) & (q < Machine::NO_PROCESS);
-    if there {
-        let mut p = m.processes[q as usize];
-        let mut regs = p.regs;
-        let answer = answer_of(regs, reason);
-        if answer == 0 {
-            regs.reason = reason;
-            p.regs = regs;
-            m.processes[q as usize] = p;
-        }
+    if check_stop(&m.processes, m.created, q, reason).is_ok() && q < Machine::NO_PROCESS {
+        m.processes[usize::from(q)].regs.reason = reason;
     }
     m
 }
 
-// 0, or why the job cannot be stopped; p is the record of process i, whatever stands there.
+// Call 5 pushes the answer as a number: 0, or why there is no stop; p is the record of process i, whatever stands there.
+#[tactic(auto, using(machine::proofs::Laws::past))]
 pub fn stop_answer(
-    processes: [Process; Machine::PROCESSES as usize],
+    mut processes: [Process; Machine::PROCESSES as usize],
     i: u8,
     p: Process,
     created: u8,
@@ -101,30 +126,8 @@ pub fn stop_answer(
 ) -> u16
     ensures { (m : Machine) → m.processes ≡ set processes i p → m.created ≡ created → result ≡ stop_answer m q reason }
 {
-    if wide(created) <= q {
-        return 1;
+    if i < Machine::PROCESSES {
+        processes[usize::from(i)] = p;
     }
-    if Machine::NO_PROCESS <= q {
-        return 2;
-    }
-    if q == wide(i) {
-        return answer_of(p.regs, reason);
-    }
-    let other = processes[q as usize];
-    answer_of(other.regs, reason)
-}
-
-// Of a process there is: 2 no job, 3 reason outside 16 to 255, 4 already stopped.
-#[tactic(auto, using(machine::proofs::Laws::cases))]
-fn answer_of(r: Regs, reason: u16) -> u16
-    ensures { result ≡ if (not r.in_job) 2 (if (ltb reason 16 || ltb 255 reason) 3 (if (not (eqb r.reason 0)) 4 0)) }
-{
-    if !r.in_job {
-        return 2;
-    }
-    let outside = (reason < Machine::FIRST_REASON) | (Machine::LAST_REASON < reason);
-    if outside {
-        return 3;
-    }
-    if r.reason != 0 { 4 } else { 0 }
+    check_stop(&processes, created, q, reason).map_or_else(u16::from, |()| 0)
 }

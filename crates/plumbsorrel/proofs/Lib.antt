@@ -1,4 +1,4 @@
 pub mod Laws
 pub mod Chain
-pub mod Asked
+pub mod Recording
 pub mod Loading

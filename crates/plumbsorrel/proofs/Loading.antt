@@ -12,16 +12,13 @@ use Rattle.notation.specs.If.{if}
 use Rattle.notation.specs.Upto.{all_to, laid}
 use Rattle.image.specs.declared.head.Header.{Header}
 use Rattle.image.specs.declared.table.Refusal.{Refusal}
-use Rattle.image.specs.declared.table.Check.{Check}
-use Rattle.image.specs.declared.table.Check.TheVariants.{Passed, Failed}
-use Rattle.image.specs.declared.reader.Reading.{Reading}
-use Rattle.image.specs.declared.reader.Reading.TheVariants.{Accepted, Refused}
-use Rattle.image.specs.Refusal.{Reply, taken, refused, ◌then◌, number_of, named, refused_by, check_says}
+use Rattle.std.specs.Prelude.{Result, Ok, Err}
+use Rattle.image.specs.Refusal.{Reply, taken, refused, ◌then◌, number_of, named, refused_by}
 use Rattle.image.specs.Block.{word_at, blocks}
 use Rattle.image.specs.Header.{fields, good_header, header_of, rest_zero, code_blocks}
 use Rattle.image.specs.Read.{refuse, refusal1, refusal2, refusal3, refusal4, refusal5, refusal10, first_bad, image_rows, checks, code_at, read_says}
 use Rattle.image.specs.Write.{image_length, write_checks, writing}
-use Rattle.image.proofs.Laws.{both_taken, rows_then, through_all}
+use Rattle.image.proofs.Laws.{both_taken, rows_then, through_all, size_fits}
 use Rattle.machine.specs.declared.Machine.{Machine}
 use Rattle.machine.specs.State.{fresh}
 use Rattle.machine.specs.Store.{World}
@@ -30,10 +27,9 @@ use Rattle.machine.specs.Load.{Loading, loaded, loaded_by, loads}
 use Rattle.layout.specs.Layout.{packed, state_words}
 use Rattle.run.specs.Loaded.{SetUp, set_up, after_set_up, LoadOutcome, load_left as load_of}
 use Rattle.run.proofs.Loads.{load_taken}
-use Rattle.plumbsorrel.specs.Number.{reply_number, load_number, values, block_named}
+use Rattle.plumbsorrel.specs.Number.{reply_number, load_number}
 use Rattle.plumbsorrel.specs.Image.{load_leaves, c_load}
 use Rattle.plumbsorrel.proofs.Chain.{different, chain-cases, by_test}
-use Rattle.plumbsorrel.proofs.Laws.{little}
 
 -- the block that 2 names is one of the image's
 by_block : (bytes : List ℕ) (k : ℕ) (vs : List ℕ) → refused k vs ≡ refusal2 bytes → (k ≡ 2) × (get_or vs 0 0 ≤ blocks bytes)
@@ -98,76 +94,78 @@ was_refused (refused j us) vs k ws e = e
 by_both : (a b : Reply) (vs ws : List ℕ) (l : Loading) → taken vs ≡ a → taken ws ≡ b → loaded_by (a then b) l ≡ l
 by_both a b vs ws l e f = rw (← e, ← f)
 
-module _ (bytes code common private state : List ℕ) (x : Reading)
-    (e : read_says x ≡ (checks bytes (refuse 6 (not (stores_fit common private))) (length code) then taken (fields (header_of bytes)))) where
+-- ---- what the checks of loading answer
+module _ (bytes code common private state : List ℕ) (x : Result Header Refusal) where
   abbrev bad : Bool
   bad = not (stores_fit common private)
 
   abbrev asks : Reply
   asks = checks bytes (refuse 6 bad) (length code)
 
-  pub load_little : length bytes < 18446744073709551616 → block_named (read_says x) < 36028797018963968
-  load_little m = go (read_says x) e
-    where
-      go : (r : Reply) → r ≡ (asks then taken (fields (header_of bytes))) → block_named r < 36028797018963968
-      go (taken vs) h = omega arith
-      go (refused k vs) h =
-          in_memory bytes (get_or vs 0 0) (chain-cases asks _ k vs h (λ g. checks_name bytes bad (length code) k vs g) (λ _ _ g. different _ _ _ (sym g))) m
+  abbrev room : Reply
+  room = refusal10 (length state) state_words
 
-  pub load_refuses : (r : Refusal) → x ≡ Refused r → load_leaves (load_number (read_says x)) code common private state ≡ c_load bytes code common private state
-  unfolding c_load
-  load_refuses r t =
-      let z : asks ≡ refused_by r = was_refused asks (fields (header_of bytes)) (number_of r) (named r) (rw t at (sym e)) in
-      rw (t, z)
+  module _ (e : read_says x ≡ ((asks then room) then taken (fields (header_of bytes)))) where
+    module _ (r : Refusal) (t : x ≡ Err r) where
+      is_refused : (asks then room) ≡ refused_by r
+      is_refused = was_refused (asks then room) (fields (header_of bytes)) (number_of r) (named r) (rw t at (sym e))
 
-  module _ (h : Header) (t : x ≡ Accepted h) (k : Check) (says : check_says k ≡ refusal10 (length state) state_words) where
-    passes : (ws : List ℕ) × (taken ws ≡ asks)
-    passes = (through_all asks (fields (header_of bytes)) (fields h) (taken []) (rw t at (sym e))).0
+      pub load_little : length bytes < 18446744073709551616 → get_or (named r) 0 0 < 36028797018963968
+      unfolding refusal10
+      load_little l =
+          chain-cases asks room (number_of r) (named r) (sym is_refused)
+          (λ g. in_memory bytes (get_or (named r) 0 0) (checks_name bytes bad (length code) (number_of r) (named r) g) l)
+          (λ _ _ g. omega (arith, (by_test 10 (ltb (length state) state_words) (number_of r) (named r) g).1))
 
-    -- 10, for the state
-    pub state_little : block_named (check_says k) < 36028797018963968
-    unfolding refusal10
-    state_little = little 10 (ltb (length state) state_words) k says
+      pub load_refuses : load_leaves (reply_number (refused_by r)) code common private state ≡ c_load bytes code common private state
+      unfolding c_load
+      load_refuses = rw is_refused
 
-    pub state_short : (y : Refusal) → k ≡ Failed y → load_leaves (reply_number (check_says k)) code common private state ≡ c_load bytes code common private state
-    unfolding c_load
-    state_short y u = rw (u, ← passes.1, ← says, u)
+    module _ (h : Header) (t : x ≡ Ok h) where
+      through : ((us : List ℕ) × (taken us ≡ (asks then room))) × ((asks then room) then taken [] ≡ taken []) × (fields (header_of bytes) ≡ fields h)
+      through = through_all (asks then room) (fields (header_of bytes)) (fields h) (taken []) (rw t at (sym e))
 
-    -- all that is loaded
-    abbrev fresh-world : World
-    fresh-world = record { machine = fresh (header_of bytes); common = replicate 2048 0; private = replicate 20480 0 }
+      both_pass : ((ws : List ℕ) × (taken ws ≡ asks)) × (taken through.0.0 ≡ room)
+      both_pass = both_taken through.0.0 asks room through.0.1
 
-    abbrev code-laid : List ℕ
-    code-laid = laid (code_at bytes) (word_at bytes 2) code
+      pub state_long : state_words ≤ length state
+      state_long = size_fits (length state) state_words _ both_pass.1
 
-    is_loaded : loads bytes common private code ≡ loaded fresh-world code-laid
-    unfolding loads
-    is_loaded = by_taken asks passes.0 _ passes.1
+      -- all that is loaded
+      abbrev fresh-world : World
+      fresh-world = record { machine = fresh (header_of bytes); common = replicate 2048 0; private = replicate 20480 0 }
 
-    pub load-leaves :
-        k ≡ Passed → (m : Machine) (code' common' private' : List ℕ) →
-        set_up m code' common' private' ≡ after_set_up bytes h code common private →
-        (new : List ℕ) → new ≡ packed m ++ drop state_words state →
-        load_leaves (256 * h.length) code' common' private' new ≡ c_load bytes code common private state
-    unfolding c_load
-    load-leaves u m code' common' private' s new n =
-        let o : ◌≡◌ {A = LoadOutcome} (record { reply = read_says x; after = after_set_up bytes h code common private }) (record { reply = taken (fields (header_of bytes)); after = set_up (fresh (header_of bytes)) code-laid (replicate 2048 0) (replicate 20480 0) }) =
-        load_taken bytes common private code x e h t ∙ ap (load_of bytes code common private) is_loaded in
-        let q : set_up m code' common' private' ≡ set_up (fresh (header_of bytes)) code-laid (replicate 2048 0) (replicate 20480 0) = s ∙ ap (λ (y : LoadOutcome). y.after) o in
-        let f : 256 * h.length ≡ 256 * word_at bytes 2 = ap (λ (y : LoadOutcome). load_number y.reply) (rw t at o) in
-        let r : taken [] ≡ refusal10 (length state) state_words = rw u at says in
-        let d : loaded_by (asks then refusal10 (length state) state_words) (loads bytes common private code) ≡ loaded fresh-world code-laid =
-        by_both asks (refusal10 (length state) state_words) passes.0 [] (loads bytes common private code) passes.1 r ∙ is_loaded in
-        rw (
-          n,
-          d,
-          f,
-          ap (λ (y : SetUp). y.machine) q,
-          ap (λ (y : SetUp). y.code) q,
-          ap (λ (y : SetUp). y.common) q,
-          ap (λ (y : SetUp). y.private) q,
-          fresh-length (header_of bytes),
-        )
+      abbrev code-laid : List ℕ
+      code-laid = laid (code_at bytes) (word_at bytes 2) code
+
+      is_loaded : loads bytes common private code ≡ loaded fresh-world code-laid
+      unfolding loads
+      is_loaded = by_taken asks both_pass.0.0 _ both_pass.0.1
+
+      pub load-leaves :
+          (m : Machine) (code' common' private' : List ℕ) →
+          set_up m code' common' private' ≡ after_set_up bytes h code common private →
+          (new : List ℕ) → new ≡ packed m ++ drop state_words state →
+          load_leaves (256 * h.length) code' common' private' new ≡ c_load bytes code common private state
+      unfolding c_load
+      load-leaves m code' common' private' s new n =
+          let a : read_says (Ok h) ≡ (asks then taken (fields (header_of bytes))) = rw (← both_pass.0.1, through.2) in
+          let o : ◌≡◌ {A = LoadOutcome} (record { reply = taken (fields h); after = after_set_up bytes h code common private }) (record { reply = taken (fields (header_of bytes)); after = set_up (fresh (header_of bytes)) code-laid (replicate 2048 0) (replicate 20480 0) }) =
+          load_taken bytes common private code (Ok h) a h refl ∙ ap (load_of bytes code common private) is_loaded in
+          let q : set_up m code' common' private' ≡ set_up (fresh (header_of bytes)) code-laid (replicate 2048 0) (replicate 20480 0) = s ∙ ap (λ (y : LoadOutcome). y.after) o in
+          let f : 256 * h.length ≡ 256 * word_at bytes 2 = ap (λ (y : LoadOutcome). load_number y.reply) o in
+          let d : loaded_by (asks then room) (loads bytes common private code) ≡ loaded fresh-world code-laid =
+          by_both asks room both_pass.0.0 through.0.0 (loads bytes common private code) both_pass.0.1 both_pass.1 ∙ is_loaded in
+          rw (
+            n,
+            d,
+            f,
+            ap (λ (y : SetUp). y.machine) q,
+            ap (λ (y : SetUp). y.code) q,
+            ap (λ (y : SetUp). y.common) q,
+            ap (λ (y : SetUp). y.private) q,
+            fresh-length (header_of bytes),
+          )
 
 -- ---- writing
 module _ (h : Header) (words room : ℕ) where
@@ -180,9 +178,5 @@ module _ (h : Header) (words room : ℕ) where
       (λ _ _ g. (by_test 10 (ltb room (image_length h.length)) k vs g).1)))
       (λ _ _ g. different _ _ _ (sym g))
 
-  pub write_little : (x : Reply) → x ≡ writing h words room → h.length < 65536 → get_or (values x) 0 0 < 36028797018963968
-  write_little (taken vs) e l =
-      let z = (both_taken vs (write_checks h words room) _ e).1 in
-      let y : vs ≡ image_length h.length ∷ [] = cc in
-      rw y (omega (arith, l))
-  write_little (refused k vs) e l = omega (arith, write_names k vs e)
+  pub write_little : (r : Refusal) → refused_by r ≡ writing h words room → get_or (named r) 0 0 < 36028797018963968
+  write_little r e = omega (arith, write_names (number_of r) (named r) e)

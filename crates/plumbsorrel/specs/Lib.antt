@@ -2,3 +2,4 @@ pub mod Number
 pub mod Offers
 pub mod Image
 pub mod Record
+pub mod Asked

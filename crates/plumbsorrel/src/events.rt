@@ -1,34 +1,40 @@
-// Tick, bell and done.
+// Tick, bell and done. Each is a `match` of its own: of a closure that is dropped uncalled, where the checks refuse, a contract cannot say
+// that the stores that it holds stay as they are.
 ghost use Rattle.std.specs.Prelude.{◌≡◌, []};
-ghost use Rattle.plumbsorrel.specs.Offers.{leaves, c_tick, c_bell, c_done};
+ghost use Rattle.image.specs.Refusal.{◌then◌};
+ghost use Rattle.plumbsorrel.specs.Offers.{leaves, lent_stores, unknown, c_tick, c_bell, c_done};
+ghost use Rattle.plumbsorrel.specs.Asked.{Says};
 
 use crate::{number, state};
-use image::Check;
+use image::Refusal;
+use machine::Machine;
 
 #[unsafe(no_mangle)]
 pub extern "C" fn plumbsorrel_tick(state: &mut [u16]) -> u64
     ensures { leaves result state.new [] [] ≡ c_tick state.old }
 {
-    let u = layout::unpack(state);
-    let known = state::check_known(u.known);
-    let Check::Passed = known else {
-        return number::of_check(known);
-    };
-    let m = u.machine;
-    state::put_back(run::tick(m), state)
+    match state::known(state) {
+        Ok(m) => state::put_back(run::tick(m), state),
+        Err(r) => number::of_refusal(r),
+    }
 }
 
 #[unsafe(no_mangle)]
 pub extern "C" fn plumbsorrel_bell(state: &mut [u16]) -> u64
     ensures { leaves result state.new [] [] ≡ c_bell state.old }
 {
-    let u = layout::unpack(state);
-    let known = state::check_known(u.known);
-    let Check::Passed = known else {
-        return number::of_check(known);
-    };
-    let m = u.machine;
-    state::put_back(run::bell(m), state)
+    match state::known(state) {
+        Ok(m) => state::put_back(run::bell(m), state),
+        Err(r) => number::of_refusal(r),
+    }
+}
+
+// 6 and 7, in the table's order.
+fn asked(common: &[u16], private: &[u16], state: &[u16]) -> Result<Machine, Refusal>
+    ensures { Says result (lent_stores common.now private.now then unknown state.now) state.now }
+{
+    run::check_stores(common.len(), private.len())?;
+    state::known(state)
 }
 
 #[unsafe(no_mangle)]
@@ -42,16 +48,11 @@ pub extern "C" fn plumbsorrel_done(
 ) -> u64
     ensures { leaves result state.new common.new private.new ≡ c_done device status arg common.old private.old state.old }
 {
-    let lent = run::check_stores(common.len(), private.len());
-    let Check::Passed = lent else {
-        return number::of_check(lent);
-    };
-    let u = layout::unpack(state);
-    let known = state::check_known(u.known);
-    let Check::Passed = known else {
-        return number::of_check(known);
-    };
-    let m = u.machine;
-    let x = run::done(m, device, status, arg, common, private);
-    state::put_back(x, state)
+    match asked(common, private, state) {
+        Ok(m) => {
+            let x = run::done(m, device, status, arg, common, private);
+            state::put_back(x, state)
+        }
+        Err(r) => number::of_refusal(r),
+    }
 }

@@ -1,9 +1,29 @@
 // Loading and writing images.
-ghost use Rattle.std.specs.Prelude.{◌≡◌};
+ghost use Rattle.std.specs.Prelude.{◌≡◌, not, length};
+ghost use Rattle.image.specs.Refusal.{taken, ◌then◌};
+ghost use Rattle.image.specs.Header.{fields, header_of};
+ghost use Rattle.image.specs.Read.{refuse, refusal10, checks, read_says};
+ghost use Rattle.machine.specs.Offer.{stores_fit};
+ghost use Rattle.layout.specs.Layout.{state_words};
 ghost use Rattle.plumbsorrel.specs.Image.{header, load_leaves, c_load, write_leaves, c_write};
 
 use crate::number;
-use image::{Check, Header, Reading};
+use image::{Header, Refusal};
+
+// 1 to 6 and 10, for the code and for the state, in the table's order.
+fn check_load(
+    image: &[u8],
+    code: &[u16],
+    common: &[u16],
+    private: &[u16],
+    state: &[u16],
+) -> Result<Header, Refusal>
+    ensures { read_says result ≡ ((checks image.now (refuse 6 (not (stores_fit common.now private.now))) (length code.now) then refusal10 (length state.now) state_words) then taken (fields (header_of image.now))) }
+{
+    let header = run::check_load(image, code.len(), common.len(), private.len())?;
+    image::check_room(state.len(), layout::WORDS)?;
+    Ok(header)
+}
 
 // The fresh machine's words first in the state, its code and its cleared stores; 256 times n.
 #[unsafe(no_mangle)]
@@ -17,17 +37,14 @@ pub extern "C" fn plumbsorrel_load(
     ensures { load_leaves result code.new common.new private.new state.new
         ≡ c_load image.now code.old common.old private.old state.old }
 {
-    let reading = run::check_load(image, code.len(), common.len(), private.len());
-    let Reading::Accepted(header) = reading else {
-        return number::of_reading(reading);
-    };
-    let room = image::check_room(state.len(), layout::WORDS);
-    let Check::Passed = room else {
-        return number::of_check(room);
-    };
-    let m = run::set_up(image, header, code, common, private);
-    layout::pack(m, &mut state[..layout::WORDS]);
-    number::of_reading(reading)
+    match check_load(image, code, common, private, state) {
+        Ok(header) => {
+            let m = run::set_up(image, header, code, common, private);
+            layout::pack(m, &mut state[..layout::WORDS]);
+            256 * u64::from(header.length)
+        }
+        Err(r) => number::of_refused_image(r),
+    }
 }
 
 // The image of a header and code; 256 times its bytes.
@@ -48,6 +65,8 @@ pub extern "C" fn plumbsorrel_write(
         devices,
         variables,
     };
-    let x = image::write(h, code, out);
-    number::of_writing(x)
+    match image::write(h, code, out) {
+        Ok(bytes) => 256 * bytes as u64,
+        Err(r) => number::of_refused_image(r),
+    }
 }

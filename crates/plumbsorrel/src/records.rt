@@ -1,64 +1,46 @@
 // The record of a busy device.
-ghost use Rattle.std.specs.Prelude.{◌≡◌, ◌&&◌, ◌||◌, not, ◌++◌, ◌≤◌, ltb, length, drop};
+ghost use Rattle.std.specs.Prelude.{◌≡◌, ◌||◌, not, ◌++◌, ◌≤◌, ltb, length, drop};
 ghost use Rattle.image.specs.Refusal.{check_says};
 ghost use Rattle.image.specs.Read.{refuse};
 ghost use Rattle.machine.specs.Device.{is_busy};
-ghost use Rattle.machine.specs.Sound.{sound};
-ghost use Rattle.plumbsorrel.specs.Record.{asks_record, record_leaves, c_record};
-ghost use Rattle.machine.specs.Offer.{lengths_fit};
+ghost use Rattle.plumbsorrel.specs.Record.{record_checks, record_leaves, c_record};
+ghost use Rattle.plumbsorrel.specs.Asked.{Says};
 
-use crate::number;
-use image::{Check, Refusal};
-use layout::Unpacked;
+use crate::{number, state};
+use image::Refusal;
 use machine::Machine;
-
-// 7: the words are no machine's, or its state is not sound.
-fn check_sound(u: Unpacked) -> Check
-    ensures { check_says result ≡ refuse 7 (not (u.known && sound u.machine)) }
-{
-    let known = u.known;
-    let sound = sound::is_sound(u.machine);
-    let good = known & sound;
-    if good {
-        Check::Passed
-    } else {
-        Check::Failed(Refusal::Unsound)
-    }
-}
 
 // 9: no such device, or it is not busy.
 #[tactic(auto, using(machine::proofs::Laws::cases))]
-fn check_busy(m: Machine, d: u16) -> Check
+fn check_busy(m: Machine, d: u16) -> Result<(), Refusal>
     ensures { check_says result ≡ refuse 9 (ltb 4 d || not (is_busy m d)) }
 {
     if 4 < d {
-        return Check::Failed(Refusal::Done);
+        return Err(Refusal::Done);
     }
-    let x = m.devices[d as usize];
-    if x.process < Machine::NOBODY {
-        Check::Passed
+    if m.devices[usize::from(d)].process < Machine::NOBODY {
+        Ok(())
     } else {
-        Check::Failed(Refusal::Done)
+        Err(Refusal::Done)
     }
 }
 
 // 6, 7, 9 and 10, in the table's order: the first refusal returns at once.
-fn check_record(u: Unpacked, d: u16, common: usize, private: usize, room: usize) -> Check
-    ensures { check_says result ≡ asks_record (lengths_fit common private) (u.known && sound u.machine) d (is_busy u.machine d) room }
+#[tactic(auto, using(crate::proofs::Laws::asking), unfolding(crate::specs::Record::record_checks))]
+fn asked(
+    d: u16,
+    common: &[u16],
+    private: &[u16],
+    state: &[u16],
+    room: usize,
+) -> Result<Machine, Refusal>
+    ensures { Says result (record_checks d common.now private.now state.now room) state.now }
 {
-    let lent = run::check_stores(common, private);
-    let Check::Passed = lent else {
-        return lent;
-    };
-    let sound = check_sound(u);
-    let Check::Passed = sound else {
-        return sound;
-    };
-    let busy = check_busy(u.machine, d);
-    let Check::Passed = busy else {
-        return busy;
-    };
-    image::check_room(room, 4)
+    run::check_stores(common.len(), private.len())?;
+    let m = state::known_sound(state)?;
+    check_busy(m, d)?;
+    image::check_room(room, 4)?;
+    Ok(m)
 }
 
 // The four words stand first; the rest stays.
@@ -66,10 +48,7 @@ fn copy(words: &[u16], out: &mut [u16])
     requires { (length words.now ≡ 4) × (4 ≤ length out.old) }
     ensures { out.new ≡ words.now ++ drop 4 out.old }
 {
-    out[0] = words[0];
-    out[1] = words[1];
-    out[2] = words[2];
-    out[3] = words[3];
+    out[..4].copy_from_slice(words);
 }
 
 // The record's operation, status, arg and unit, of a busy device.
@@ -83,13 +62,11 @@ pub extern "C" fn plumbsorrel_record<'a>(
 ) -> u64
     ensures { record_leaves result out.new ≡ c_record device common.now private.now state.now out.old }
 {
-    let u = layout::unpack(state);
-    let check = check_record(u, device, common.len(), private.len(), out.len());
-    let Check::Passed = check else {
-        return number::of_check(check);
-    };
-    let m = u.machine;
-    let words = kernel::record(m, device as u8, common, private);
-    copy(words, out);
-    0
+    match asked(device, common, private, state, out.len()) {
+        Ok(m) => {
+            copy(kernel::record(m, device as u8, common, private), out);
+            0
+        }
+        Err(r) => number::of_refusal(r),
+    }
 }

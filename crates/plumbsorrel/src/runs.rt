@@ -1,45 +1,41 @@
 // Step and run.
-ghost use Rattle.std.specs.Prelude.{◌≡◌, ◌&&◌, not, List, ℕ, length};
-ghost use Rattle.image.specs.Refusal.{check_says};
-ghost use Rattle.image.specs.Read.{refuse};
-ghost use Rattle.plumbsorrel.specs.Offers.{code_fits, leaves, c_step, c_run};
-ghost use Rattle.machine.specs.Offer.{lengths_fit};
+ghost use Rattle.std.specs.Prelude.{◌≡◌};
+ghost use Rattle.image.specs.Refusal.{◌then◌, check_says};
+ghost use Rattle.plumbsorrel.specs.Offers.{code_fits, lent_code, unknown, leaves, c_step, c_run};
+ghost use Rattle.plumbsorrel.specs.Asked.{Says};
 
 use crate::{number, state};
-use image::{Check, Refusal};
+use image::Refusal;
 use machine::Machine;
 
-// A word as a length.
-fn wide(x: u16) -> usize
-    ensures { result ≡ x }
-{
-    x as usize
-}
-
 // The code is n words: n is word 818 where there are as many words as a state has, else there is no n.
-fn code_fits(code: usize, state: &[u16]) -> bool
-    ensures { (c : List ℕ) → length c ≡ code → result ≡ code_fits c state.now }
+fn code_fits(code: &[u16], state: &[u16]) -> bool
+    ensures { result ≡ code_fits code.now state.now }
 {
-    if state.len() != layout::WORDS {
-        return true;
-    }
-    let n = wide(state[818]);
-    code == n
+    state.len() != layout::WORDS || code.len() == usize::from(state[818])
 }
 
 // 6: a lent store has the wrong length, or the code is not n words.
-fn check_lent(code: usize, common: usize, private: usize, state: &[u16]) -> Check
-    ensures { (c : List ℕ) → length c ≡ code → check_says result ≡ refuse 6 (not (lengths_fit common private && code_fits c state.now)) }
+fn check_lent(code: &[u16], common: &[u16], private: &[u16], state: &[u16]) -> Result<(), Refusal>
+    ensures { check_says result ≡ lent_code code.now common.now private.now state.now }
 {
-    let fits = code_fits(code, state);
-    let fit = (common == Machine::COMMON) & (private == Machine::PRIVATE) & fits;
-    if fit {
-        Check::Passed
+    run::check_stores(common.len(), private.len())?;
+    if code_fits(code, state) {
+        Ok(())
     } else {
-        Check::Failed(Refusal::Lent)
+        Err(Refusal::Lent)
     }
 }
 
+// 6 and 7, in the table's order.
+fn asked(code: &[u16], common: &[u16], private: &[u16], state: &[u16]) -> Result<Machine, Refusal>
+    ensures { Says result (lent_code code.now common.now private.now state.now then unknown state.now) state.now }
+{
+    check_lent(code, common, private, state)?;
+    state::known(state)
+}
+
+// A run of one instruction.
 #[unsafe(no_mangle)]
 pub extern "C" fn plumbsorrel_step(
     code: &[u16],
@@ -49,18 +45,7 @@ pub extern "C" fn plumbsorrel_step(
 ) -> u64
     ensures { leaves result state.new common.new private.new ≡ c_step code.now common.old private.old state.old }
 {
-    let lent = check_lent(code.len(), common.len(), private.len(), state);
-    let Check::Passed = lent else {
-        return number::of_check(lent);
-    };
-    let u = layout::unpack(state);
-    let known = state::check_known(u.known);
-    let Check::Passed = known else {
-        return number::of_check(known);
-    };
-    let m = u.machine;
-    let x = run::step(m, code, common, private);
-    state::put_back(x, state)
+    plumbsorrel_run(code, 1, common, private, state)
 }
 
 #[unsafe(no_mangle)]
@@ -73,16 +58,8 @@ pub extern "C" fn plumbsorrel_run(
 ) -> u64
     ensures { leaves result state.new common.new private.new ≡ c_run code.now budget common.old private.old state.old }
 {
-    let lent = check_lent(code.len(), common.len(), private.len(), state);
-    let Check::Passed = lent else {
-        return number::of_check(lent);
-    };
-    let u = layout::unpack(state);
-    let known = state::check_known(u.known);
-    let Check::Passed = known else {
-        return number::of_check(known);
-    };
-    let m = u.machine;
-    let x = run::run(m, code, budget, common, private);
-    state::put_back(x, state)
+    match asked(code, common, private, state) {
+        Ok(m) => state::put_back(run::run(m, code, budget, common, private), state),
+        Err(r) => number::of_refusal(r),
+    }
 }

@@ -1,6 +1,6 @@
 -- A run as its turns: what is left to do gives the same end
 use mathlib.Core.Path.{◌≡◌, refl, sym, ap, subst, ◌∙◌}
-use mathlib.Core.Bool.{Bool, true, false, ◌&&◌, not}
+use mathlib.Core.Bool.{Bool, true, false}
 use mathlib.Core.List.{List}
 use Prim.Native.Nat.{ℕ, zero, suc, ◌+◌, ◌-◌, ◌<◌, ◌≤◌}
 use native.Mathlib.Omega.{arith}
@@ -24,24 +24,39 @@ use Rattle.run.specs.Ran.{ran, is_onward, is_stopped, Accepted, settled}
 use Rattle.run.proofs.Turns.{turn-run, idle-run}
 
 -- ---- after what was decided, the selection, where it changes the machine
-select-same : (n : Machine) → selects n ≡ false → select n ≡ n
+pub not_selecting : (n : Machine) → selects n ≡ false → select n ≡ n
 unfolding select
-select-same n e = rw e
+not_selecting n e = rw e
 
-settles_by : (stopped : Bool) (n : Machine) (c q : List ℕ) (b : Bool) → b ≡ (not stopped && selects n)
-    → world (if b (select n) n) c q ≡ if stopped (world n c q) (selected (world n c q))
-settles_by true n c q b e = rw e
-settles_by false n c q true e = refl
-settles_by false n c q false e = ap (λ (x : Machine). world x c q) (sym (select-same n (sym e)))
+if_same : (b : Bool) (n : Machine) → n ≡ if b n n
+if_same true n = refl
+if_same false n = refl
+
+pub unless_selects : (b : Bool) (n : Machine) → selects n ≡ false → n ≡ if b n (select n)
+unless_selects b n e = rw (not_selecting n e) (if_same b n)
+
+pub when_stopped : (e : End) (n k : Machine) → e ≡ Stopped → n ≡ if (is_stopped (end_of e)) n k
+when_stopped e n k s = rw s
+
+settles_by : (b : Bool) (n : Machine) (c q : List ℕ) → world (if b n (select n)) c q ≡ if b (world n c q) (selected (world n c q))
+settles_by true n c q = refl
+settles_by false n c q = refl
 
 pub ran_on : (m : Machine) (d : Decision) (c q : List ℕ) (count : ℕ) (s : Stepped) → settled (decided m d c q) count ≡ s
     → (e : End) → end_of e ≡ endOfAct d.act
     → (n : Machine) → n ≡ performed (with_process m m.running d.process) d.act
-    → (b : Bool) → b ≡ (not (is_stopped (end_of e)) && selects n)
-    → (n' : Machine) → n' ≡ if b (select n) n
+    → (n' : Machine) → n' ≡ if (is_stopped (end_of e)) n (select n)
     → ran (record { machine = n'; ended = e; count = count }) c q ≡ s
-ran_on m d c q count s h e f n g b k n' l =
-    rw (l, settles_by (is_stopped (end_of e)) n c q b k, f, g) h
+ran_on m d c q count s h e f n g n' l = rw (l, settles_by (is_stopped (end_of e)) n c q, f, g) h
+
+pub onward_is : (e : End) → e ≡ Onward → is_onward e ≡ true
+onward_is e s = rw s
+
+pub other_is : (e : End) → (e ≡ Onward → ⊥) → is_onward e ≡ false
+other_is Onward h = absurd (h refl)
+other_is Idle h = refl
+other_is (Starting d) h = refl
+other_is Stopped h = refl
 
 abbrev pub Left : List ℕ → ℕ → World → ℕ → World → Type 0
 Left code budget w₀ count w = (count ≤ budget) × Accepted code w × (run code budget w₀ ≡ later count (run code (budget - count) w))

@@ -4,7 +4,7 @@ use mathlib.Core.Bool.{true, false, and-false}
 use mathlib.Core.List.{List}
 use Prim.Native.Nat.{ℕ, zero, suc, ◌+◌, ◌-◌, ◌*◌, ◌<◌, ◌≤◌}
 use native.Mathlib.Omega.{arith}
-use lib.ListN.{length, set}
+use lib.ListN.{length}
 use lib.Seq.{drop-drop, get_or-set_same, set-set}
 use lib.Dec.{ltb}
 use borrow.Author.Tests.{lt-ltb, le-leb}
@@ -12,7 +12,6 @@ use borrow.Rule.Slice.PartMut.{mid_of, put_mid}
 use Rattle.notation.proofs.Upto.{split}
 use Rattle.machine.specs.declared.Regs.{Regs}
 use Rattle.machine.specs.declared.Process.{Process}
-use Rattle.machine.specs.declared.Gate.{Gate}
 use Rattle.machine.specs.declared.Machine.{Machine}
 use Rattle.machine.specs.State.{nobody, no_process, proc, floor_of, with_process, with_regs}
 use Rattle.machine.specs.Store.{World, part_of}
@@ -28,11 +27,10 @@ use Rattle.kept.proofs.Stepping.{Able, private-long, able-fit, able_again}
 use Rattle.engine.specs.declared.burst.Burst.{Burst}
 use Rattle.engine.specs.Burst.{Ending, at_budget, at_call, at_fault, at_jobs_end, unfit, Bursted, end_says, burst_says, moved, job_over, goes_on, bursts}
 use Rattle.kernel.specs.declared.answer.Decision.{Decision}
-use Rattle.kernel.specs.declared.caller.Caller.{Caller}
-use Rattle.kernel.specs.Did.{Outcome, outcome, decided, caller_of, traps}
+use Rattle.kernel.specs.Did.{Outcome, outcome, decided, traps}
 use Rattle.run.specs.Turn.{put, later, follows, turn, quota_of}
 use Rattle.run.specs.Said.{world}
-use Rattle.run.specs.Ran.{Accepted, Leaves, BurstOf, Small, Callable, Countable, counted, following, moved_caller, settled}
+use Rattle.run.specs.Ran.{Accepted, Leaves, Callable, Countable, counted, following, moved_on, settled}
 use Rattle.run.proofs.Parts.{put_same, put_view, put-put}
 use Rattle.run.proofs.Turns.{few, room, own-long, burst_step, steps_on, runs_on, stays_on, is_fit}
 use Rattle.notation.proofs.Test.{at_most}
@@ -42,8 +40,11 @@ module _ (code : List ℕ) (i : ℕ) (p : Process) (quota : ℕ) (common q : Lis
   abbrev seen_by : List ℕ → View
   seen_by o = record { code = code; floor = floor_of p; holding = ltb 0 p.holds; regs = p.regs; common = common; own = o }
 
-  pub burst_put : (x : Burst) (c o : List ℕ) → burst_says x c o ≡ bursts quota (seen_by (mid_of (2048 * i) (2048 * i + 2048 - 2048 * i) q))
-      → BurstOf i p code quota x common q c (put_mid (2048 * i) (2048 * i + 2048 - 2048 * i) q o)
+  pub burst_put :
+      (x : Burst) (c o : List ℕ) →
+      burst_says x c o ≡ bursts quota (seen_by (mid_of (2048 * i) (2048 * i + 2048 - 2048 * i) q)) →
+      (m : Machine) → m.running ≡ i → proc m i ≡ p →
+      Leaves (bursts quota (view code (world m common q))) m x q c (put_mid (2048 * i) (2048 * i + 2048 - 2048 * i) q o)
   burst_put x c o e m r s =
       let z : 2048 * i + 2048 - 2048 * i ≡ 2048 = omega arith in
       let v : view code (world m common q) ≡ seen_by (part_of i q) = rw (r, s) in
@@ -178,13 +179,6 @@ settles code (at_call k) v count most h = call-follows v k (callable code v k h.
 settles code (at_fault f) v count most h = settled-call v count (stops f)
 settles code unfit v count most h = refl
 
-ends-small : (code : List ℕ) (en : Ending) (v : World) (count most : ℕ) → Ends code en v count most → Small en
-ends-small code at_budget v count most h = tt
-ends-small code at_jobs_end v count most h = tt
-ends-small code (at_call k) v count most h = tt
-ends-small code (at_fault f) v count most h = h.1
-ends-small code unfit v count most h = tt
-
 ends_countable : (code : List ℕ) (en : Ending) (v : World) (count most : ℕ) → most ≤ 4294967295 → Ends code en v count most → Countable en count
 ends_countable code at_budget v count most l h = tt
 ends_countable code at_jobs_end v count most l h = tt
@@ -216,43 +210,27 @@ module _ (code : List ℕ) (m : Machine) (c q : List ℕ) (budget : ℕ) (accept
 
   module _ (quota : ℕ) (same : quota ≡ quota_of m budget) (x : Burst) (c₁ q₁ : List ℕ)
       (e : Leaves (bursts quota (view code w)) m x q c₁ q₁) where
-    -- the machine with the burst's registers
-    abbrev pub moved_on : Machine
-    moved_on = with_process m m.running (with_regs (proc m m.running) x.regs)
-
-    follows_on : turn code (quota_of m budget) w ≡ follows (end_says x.end) (world moved_on c₁ q₁) x.count
+    follows_on : turn code (quota_of m budget) w ≡ follows (end_says x.end) (world (moved_on m x.regs) c₁ q₁) x.count
     unfolding turn
     follows_on = rw (e.regs, e.count, e.end, e.common, e.private, same)
 
-    ends_at : Ends code (end_says x.end) (world moved_on c₁ q₁) x.count (quota_of m budget)
+    ends_at : Ends code (end_says x.end) (world (moved_on m x.regs) c₁ q₁) x.count (quota_of m budget)
     ends_at = rw (e.regs, e.count, e.end, e.common, e.private, same) (ends_well code w able runs budget some)
-
-    pub small-end : Small (end_says x.end)
-    small-end = ends-small code (end_says x.end) (world moved_on c₁ q₁) x.count (quota_of m budget) ends_at
 
     pub countable_end : budget ≤ 4294967295 → Countable (end_says x.end) x.count
     countable_end l =
-        ends_countable code (end_says x.end) (world moved_on c₁ q₁) x.count (quota_of m budget) (omega (arith, l, quota_most)) ends_at
+        ends_countable code (end_says x.end) (world (moved_on m x.regs) c₁ q₁) x.count (quota_of m budget) (omega (arith, l, quota_most)) ends_at
 
-    -- a call is told of its caller as it is after the burst
-    pub told-on : (who : Caller) → who ≡ caller_of m → moved_caller who x.regs ≡ caller_of moved_on
-    unfolding with_process
-    told-on who f =
-        let l : m.running < length m.processes = few code w able runs in
-        rw (f, get_or-set_same m.processes m.running (with_regs (proc m m.running) x.regs) no_process l)
-
-    pub parts-on : (who who' : Caller) → who ≡ caller_of m → who' ≡ moved_caller who x.regs → (l : List Process) → m.processes ≡ l → moved_on.processes ≡ set l who'.number who'.process
-    unfolding with_process
-    parts-on who who' f g l e = rw (g, f, e)
-
-    pub gates-on : (l : List Gate) → m.gates ≡ l → moved_on.gates ≡ l
-    unfolding with_process
-    gates-on l e = e
-
-    pub turned_on : (d : Decision) (c₂ q₂ : List ℕ) → decided moved_on d c₂ q₂ ≡ following (end_says x.end) (world moved_on c₁ q₁)
+    pub turned_on : (d : Decision) (c₂ q₂ : List ℕ) → decided (moved_on m x.regs) d c₂ q₂ ≡ following (end_says x.end) (world (moved_on m x.regs) c₁ q₁)
         → settled (decided m d c₂ q₂) (counted (end_says x.end) x.count) ≡ turn code (quota_of m budget) w
     turned_on d c₂ q₂ h =
-        let y : decided m d c₂ q₂ ≡ following (end_says x.end) (world moved_on c₁ q₁) = sym (decided-twice m (with_regs (proc m m.running) x.regs) d c₂ q₂) ∙ h in
+        let y : decided m d c₂ q₂ ≡ following (end_says x.end) (world (moved_on m x.regs) c₁ q₁) = sym (decided-twice m (with_regs (proc m m.running) x.regs) d c₂ q₂) ∙ h in
         ap (λ (o : Outcome). settled o (counted (end_says x.end) x.count)) y
-        ∙ settles code (end_says x.end) (world moved_on c₁ q₁) x.count (quota_of m budget) ends_at
+        ∙ settles code (end_says x.end) (world (moved_on m x.regs) c₁ q₁) x.count (quota_of m budget) ends_at
         ∙ sym follows_on
+
+-- ---- the caller after a burst is the one of the machine with the burst's registers
+module _ (m : Machine) (r : Regs) (l : m.running < length m.processes) where
+  pub moved-proc : proc (moved_on m r) m.running ≡ with_regs (proc m m.running) r
+  unfolding with_process
+  moved-proc = get_or-set_same m.processes m.running (with_regs (proc m m.running) r) no_process l

@@ -1,9 +1,10 @@
 -- What loading answers and leaves, in the words of the definitions
-use Rattle.std.specs.Prelude.{List, ℕ, length, replicate}
+use Rattle.std.specs.Prelude.{List, ℕ, length, replicate, Result, Ok, Err}
 use Rattle.image.specs.declared.head.Header.{Header}
-use Rattle.image.specs.Refusal.{Reply, taken, refused}
+use Rattle.image.specs.declared.table.Refusal.{Refusal}
+use Rattle.image.specs.Refusal.{Reply, taken, refused, refused_by}
 use Rattle.image.specs.Header.{fields, header_of}
-use Rattle.image.specs.Read.{read_says, copied}
+use Rattle.image.specs.Read.{copied}
 use Rattle.machine.specs.declared.Machine.{Machine}
 use Rattle.machine.specs.State.{fresh}
 use Rattle.machine.specs.Load.{Loading, loaded, unloaded, loads}
@@ -28,12 +29,13 @@ pub record LoadOutcome : Type 0 where
   pub reply : Reply
   pub after : SetUp
 
-abbrev pub load_gives : Loaded → List ℕ → List ℕ → List ℕ → LoadOutcome
-load_gives x code common private = record { reply = read_says x.reading; after = set_up x.machine code common private }
-
 -- where the image is refused, the machine beside the refusal is the fresh one of an empty header, and nothing changes
 abbrev pub empty : Header
 empty = record { edition = 0; length = 0; devices = 0; variables = 0 }
+
+abbrev pub load_gives : Result Loaded Refusal → List ℕ → List ℕ → List ℕ → LoadOutcome
+load_gives (Ok x) code common private = record { reply = taken (fields x.header); after = set_up x.machine code common private }
+load_gives (Err r) code common private = record { reply = refused_by r; after = set_up (fresh empty) code common private }
 
 abbrev pub load_left : List ℕ → List ℕ → List ℕ → List ℕ → Loading → LoadOutcome
 load_left bytes code common private (loaded w c) =

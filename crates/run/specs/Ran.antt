@@ -1,26 +1,21 @@
 -- What the functions of a turn are given and answer, in the words of the definitions
-use Rattle.std.specs.Prelude.{◌≡◌, Bool, true, false, List, ℕ, ◌+◌, ◌≤◌, ◌<◌, length}
+use Rattle.std.specs.Prelude.{◌≡◌, Bool, true, false, List, ℕ, ◌+◌, ◌<◌, length}
 use Rattle.notation.specs.If.{if}
-use Rattle.machine.specs.declared.Gate.{Gate}
-use Rattle.machine.specs.declared.Process.{Process}
 use Rattle.machine.specs.declared.Regs.{Regs}
 use Rattle.machine.specs.declared.Machine.{Machine}
-use Rattle.machine.specs.State.{nobody, proc, with_regs}
+use Rattle.machine.specs.State.{proc, with_process, with_regs}
 use Rattle.machine.specs.Store.{World, with_part}
 use Rattle.machine.specs.Sound.{sound}
 use Rattle.machine.specs.Call.{stops}
-use Rattle.machine.specs.Step.{view, Ended, onward, idle, starting, stopped, Stepped, stepped, selected}
+use Rattle.machine.specs.Step.{Ended, onward, idle, starting, stopped, Stepped, stepped, selected}
 use Rattle.machine.specs.Offer.{stores_fit}
 use Rattle.machine.specs.Shape.{Shaped}
 use Rattle.engine.specs.declared.burst.Burst.{Burst}
-use Rattle.engine.specs.Burst.{Ending, at_budget, at_call, at_fault, at_jobs_end, unfit, Bursted, end_says, bursts}
-use Rattle.kernel.specs.declared.caller.Caller.{Caller}
-use Rattle.kernel.specs.Did.{Outcome, outcome, able, caller_of, decided, traps}
+use Rattle.engine.specs.Burst.{Ending, at_budget, at_call, at_fault, at_jobs_end, unfit, Bursted, end_says}
+use Rattle.kernel.specs.Did.{Outcome, outcome, able, caller_of, traps}
 use Rattle.run.specs.declared.answer.Ended.{Ended as End}
 use Rattle.run.specs.declared.answer.Ended.TheVariants.{Onward, Idle, Starting, Stopped}
 use Rattle.run.specs.declared.answer.Ran.{Ran}
-use Rattle.run.specs.declared.turn.Turned.{Turned}
-use Rattle.run.specs.Turn.{quota_of, turn}
 use Rattle.run.specs.Said.{world, end_of}
 
 abbrev pub ran : Ran → List ℕ → List ℕ → Stepped
@@ -39,33 +34,17 @@ pub record Accepted (code : List ℕ) (w : World) : Type 0 where
   pub stores : stores_fit w.common w.private ≡ true
   pub long : length code ≡ w.machine.length
 
--- a caller with other registers
-abbrev pub moved_caller : Caller → Regs → Caller
-moved_caller who r =
-    record { number = who.number; process = with_regs who.process r; seconds = who.seconds; created = who.created; made = who.made; length = who.length; present = who.present; devices = who.devices }
+-- the machine with other registers of the running process
+abbrev pub moved_on : Machine → Regs → Machine
+moved_on m r = with_process m m.running (with_regs (proc m m.running) r)
 
--- the running process of such a world, as a turn is told of it, and its quota
-pub record Going (who : Caller) (quota : ℕ) (code c q : List ℕ) : Type 0 where
-  pub machine : Machine
-  pub budget : ℕ
-  pub told : who ≡ caller_of machine
-  pub given : quota ≡ quota_of machine budget
-  pub some : 0 < budget
-  pub most : budget ≤ 4294967295
-  pub accepted : Accepted code (world machine c q)
-  pub runs : machine.running < nobody
-
--- ---- a burst of the running process of any machine in which process i, of this record, runs
+-- ---- a burst of the running process
 pub record Leaves (b : Bursted) (m : Machine) (x : Burst) (q c' q' : List ℕ) : Type 0 where
   pub regs : x.regs ≡ b.regs
   pub count : x.count ≡ b.count
   pub end : end_says x.end ≡ b.ending
   pub common : c' ≡ b.common
   pub private : q' ≡ with_part m.running b.own q
-
-abbrev pub BurstOf : ℕ → Process → List ℕ → ℕ → Burst → List ℕ → List ℕ → List ℕ → List ℕ → Type 0
-BurstOf i p code quota x c q c' q' =
-    (m : Machine) → m.running ≡ i → proc m i ≡ p → Leaves (bursts quota (view code (world m c q))) m x q c' q'
 
 -- ---- what follows a burst that led to the world v, before the selection
 abbrev pub following : Ending → World → Outcome
@@ -74,14 +53,6 @@ following at_jobs_end v = record { machine = v.machine; common = v.common; priva
 following (at_call k) v = traps v k
 following (at_fault f) v = outcome v (stops f)
 following unfit v = record { machine = v.machine; common = v.common; private = v.private; end = stopped }
-
--- a fault has a number of the table
-abbrev pub Small : Ending → Type 0
-Small at_budget = Unit {0}
-Small at_jobs_end = Unit {0}
-Small (at_call k) = Unit {0}
-Small (at_fault f) = f ≤ 9
-Small unfit = Unit {0}
 
 -- a call and a fault are not counted by their burst
 abbrev pub counted : Ending → ℕ → ℕ
@@ -114,15 +85,3 @@ settled o k =
 pub record Callable (w : World) : Type 0 where
   pub stores : stores_fit w.common w.private ≡ true
   pub able : able (caller_of w.machine) ≡ true
-
--- ---- a turn of the running process of any accepted machine of which it is told
-abbrev pub TurnOf : Caller → ℕ → List Process → List Gate → List ℕ → Turned → List ℕ → List ℕ → List ℕ → List ℕ → Type 0
-TurnOf who quota processes gates code x c q c' q' =
-    (m : Machine) (budget : ℕ)
-    → who ≡ caller_of m
-    → m.processes ≡ processes
-    → m.gates ≡ gates
-    → quota ≡ quota_of m budget
-    → 0 < budget
-    → Accepted code (world m c q)
-    → settled (decided m x.decision c' q') x.count ≡ turn code quota (world m c q)

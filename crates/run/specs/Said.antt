@@ -1,7 +1,6 @@
 -- What the code answers, in the words of the definitions
-use Rattle.std.specs.Prelude.{List, [], ℕ}
-use Rattle.image.specs.declared.table.Check.{Check}
-use Rattle.image.specs.declared.table.Check.TheVariants.{Passed, Failed}
+use Rattle.std.specs.Prelude.{List, [], ℕ, Result, Ok, Err}
+use Rattle.image.specs.declared.table.Refusal.{Refusal}
 use Rattle.image.specs.Refusal.{number_of, named}
 use Rattle.machine.specs.declared.Machine.{Machine}
 use Rattle.machine.specs.Store.{World}
@@ -9,8 +8,6 @@ use Rattle.machine.specs.Step.{Ended, onward, idle, starting, stopped}
 use Rattle.machine.specs.Offer.{Offered, did, refuses, offer_step, offer_run, offer_tick, offer_bell, offer_done}
 use Rattle.run.specs.declared.answer.Ended.{Ended as End}
 use Rattle.run.specs.declared.answer.Ended.TheVariants.{Onward, Idle, Starting, Stopped}
-use Rattle.run.specs.declared.answer.Reply.{Reply as Answer}
-use Rattle.run.specs.declared.answer.Reply.TheVariants.{Did, Refused}
 use Rattle.run.specs.declared.answer.Offered.{Offered as Given}
 
 abbrev pub world : Machine → List ℕ → List ℕ → World
@@ -28,9 +25,9 @@ pub data Answered : Type 0 where
   ends : Ended → Answered
   refused : ℕ → List ℕ → Answered
 
-abbrev pub answer_of : Answer → Answered
-answer_of (Did e) = ends (end_of e)
-answer_of (Refused r) = refused (number_of r) (named r)
+abbrev pub answer_of : Result End Refusal → Answered
+answer_of (Ok e) = ends (end_of e)
+answer_of (Err r) = refused (number_of r) (named r)
 
 -- the world after an offer, the answer and the count
 pub record Outcome : Type 0 where
@@ -61,8 +58,3 @@ bell_outcome w = outcome w (offer_bell w)
 
 abbrev pub done_outcome : ℕ → ℕ → ℕ → World → Outcome
 done_outcome d status arg w = outcome w (offer_done w d status arg)
-
--- a check as the code replies it: passed, there is nothing to tell
-abbrev pub reply_of : Check → Answer
-reply_of Passed = Did Onward
-reply_of (Failed r) = Refused r

@@ -1,9 +1,9 @@
 -- A turn: a burst of the running process, and what follows it
-use Rattle.std.specs.Prelude.{List, ℕ, ◌+◌, ltb}
+use Rattle.std.specs.Prelude.{List, ℕ, ◌+◌}
 use Rattle.notation.specs.If.{if}
 use Rattle.machine.specs.declared.Regs.{Regs}
 use Rattle.machine.specs.declared.Machine.{Machine}
-use Rattle.machine.specs.State.{nobody, proc, with_process, with_regs}
+use Rattle.machine.specs.State.{proc, with_process, with_regs}
 use Rattle.machine.specs.Store.{World, with_part}
 use Rattle.machine.specs.Classes.{selects}
 use Rattle.machine.specs.Call.{kernel}
@@ -38,7 +38,3 @@ turn code quota w = turned w (bursts quota (view code w))
 -- without the kernel
 abbrev pub quota_of : Machine → ℕ → ℕ
 quota_of m budget = if (selects m) 1 budget
-
--- what a ready class is compared with: the class of who runs, and 3 where nobody does
-abbrev pub over_class : Machine → ℕ
-over_class m = if (ltb m.running nobody) (proc m m.running).class 3

@@ -2,32 +2,29 @@
 ghost use Rattle.std.specs.Prelude.{◌≡◌, List, ℕ};
 ghost use Rattle.run.specs.Said.{world, given, step_outcome, run_outcome, tick_outcome, bell_outcome, done_outcome};
 
-use crate::answer::{Offered, Reply, answered};
+use crate::answer::Offered;
 use crate::checks::{check_event, check_machine, check_run};
 use crate::turn::turns;
-use image::Check;
 use machine::Machine;
 
 // Tick: 10 units of 1/10,000 s.
 pub fn tick(m: Machine) -> Offered
     ensures { (c q : List ℕ) → given result c q ≡ tick_outcome (world m c q) }
 {
-    let check = check_machine(m);
-    let Check::Passed = check else {
-        return answered(m, check);
-    };
-    answered(m.tick(), check)
+    if let Err(refusal) = check_machine(m) {
+        return Offered::refused(m, refusal);
+    }
+    Offered::event(m.tick())
 }
 
-// Bell: all its waiters wake in order.
+// Bell: all its waiters wake in order. Tick and bell differ in the move alone, and one function that takes it would be no shorter.
 pub fn bell(m: Machine) -> Offered
     ensures { (c q : List ℕ) → given result c q ≡ bell_outcome (world m c q) }
 {
-    let check = check_machine(m);
-    let Check::Passed = check else {
-        return answered(m, check);
-    };
-    answered(m.ring(), check)
+    if let Err(refusal) = check_machine(m) {
+        return Offered::refused(m, refusal);
+    }
+    Offered::event(m.ring())
 }
 
 // Done: the device's process wakes, with the status, and after a read the argument, in its record.
@@ -41,12 +38,11 @@ pub fn done(
 ) -> Offered
     ensures { given result common.new private.new ≡ done_outcome d status arg (world m common.old private.old) }
 {
-    let check = check_event(m, d, status, common.len(), private.len());
-    let Check::Passed = check else {
-        return answered(m, check);
-    };
+    if let Err(refusal) = check_event(m, d, status, common.len(), private.len()) {
+        return Offered::refused(m, refusal);
+    }
     let after = kernel::device_done(m, d as u8, status, arg, common, private);
-    answered(after, check)
+    Offered::event(after)
 }
 
 // A run: up to a budget of instructions.
@@ -59,16 +55,13 @@ pub fn run(
 ) -> Offered
     ensures { given result common.new private.new ≡ run_outcome code.now budget (world m common.old private.old) }
 {
-    let check = check_run(m, code.len(), common.len(), private.len());
-    let Check::Passed = check else {
-        return answered(m, check);
-    };
+    if let Err(refusal) = check_run(m, code.len(), common.len(), private.len()) {
+        return Offered::refused(m, refusal);
+    }
     let x = turns(m, code, budget, common, private);
-    let machine = x.machine;
-    let ended = x.ended;
     Offered {
-        machine,
-        reply: Reply::Did(ended),
+        machine: x.machine,
+        reply: Ok(x.ended),
         count: x.count,
     }
 }

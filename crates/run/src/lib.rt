@@ -7,7 +7,7 @@ mod doors;
 mod loading;
 mod turn;
 
-pub use answer::{Ended, Offered, Reply};
+pub use answer::{Ended, Offered};
 pub use checks::check_stores;
 pub use doors::{bell, done, run, step, tick};
 pub use loading::{Loaded, check_load, load, set_up};

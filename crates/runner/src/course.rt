@@ -1,16 +1,14 @@
 // The course of a run: turns of instructions, with a tick of the clock after every so many, up to its end.
-ghost use Rattle.std.specs.Prelude.{◌≤◌};
-
 use crate::options::Options;
-use crate::report::say_written;
 use image::Refusal;
 use machine::Machine;
-use run::{Ended, Offered, Reply};
+use run::Ended;
 use std::io;
 
 // The ticks that are given, in all, while nobody runs and somebody waits for the clock: 100 seconds.
 pub(crate) const IDLE: u32 = 100000;
 
+// How a run ends: a refusal is one of six ends, so this is no Result.
 #[derive(Clone, Copy)]
 pub(crate) enum End {
     Budget,
@@ -21,169 +19,94 @@ pub(crate) enum End {
     Refused(Refusal),
 }
 
-// The machine at the end, how it came to it, and how many instructions it ran.
-#[derive(Clone, Copy)]
-pub(crate) struct Course {
+// A machine with all that it is lent, and its image's name.
+#[derive(Drop)]
+pub(crate) struct Bench<'a> {
+    pub(crate) path: &'a [u8],
     pub(crate) machine: Machine,
-    pub(crate) end: End,
-    pub(crate) count: u32,
+    pub(crate) code: &'a [u16],
+    pub(crate) common: [u16; Machine::COMMON],
+    pub(crate) private: [u16; Machine::PRIVATE],
 }
 
-// What a turn leaves: whether the run goes on, and where not, its end.
-#[derive(Clone, Copy)]
-struct Turn {
-    machine: Machine,
-    goes: bool,
-    end: End,
-}
-
-fn on(machine: Machine) -> Turn {
-    Turn {
-        machine,
-        goes: true,
-        end: End::Budget,
+impl Bench<'_> {
+    // The record of a device that has started.
+    pub(crate) fn record(&self, d: u8) -> &[u16] {
+        kernel::record(self.machine, d, &self.common, &self.private)
     }
-}
 
-fn over(machine: Machine, end: End) -> Turn {
-    Turn {
-        machine,
-        goes: false,
-        end,
+    // A device that has started is done at once, with status 0 and argument 0.
+    fn serve(&mut self, rt: &impl Print, d: u8) -> io::Result<()> {
+        self.say_written(rt, d)?;
+        let done = run::done(
+            self.machine,
+            u16::from(d),
+            0,
+            0,
+            &mut self.common,
+            &mut self.private,
+        );
+        self.machine = done.machine;
+        Ok(())
     }
-}
 
-// A machine that goes on refuses no tick.
-fn ticked(m: Machine) -> Machine {
-    let x = run::tick(m);
-    x.machine
-}
+    // The end, where a turn is the last. Who idles goes on: the next turn, which then counts nothing, sees to the clock.
+    fn end_of(
+        &mut self,
+        rt: &impl Print,
+        reply: Result<Ended, Refusal>,
+        serve: bool,
+    ) -> io::Result<Option<End>> {
+        match reply {
+            Ok(Ended::Onward | Ended::Idle) => Ok(None),
+            Ok(Ended::Starting(d)) if serve => {
+                self.serve(rt, d)?;
+                Ok(None)
+            }
+            Ok(Ended::Starting(d)) => Ok(Some(End::Started(d))),
+            Ok(Ended::Stopped) => Ok(Some(End::Stopped)),
+            Err(refusal) => Ok(Some(End::Refused(refusal))),
+        }
+    }
 
-// A device that has started is done at once, with status 0 and argument 0.
-fn served(
-    rt: &impl Print,
-    m: Machine,
-    d: u8,
-    path: &[u8],
-    common: &mut [u16; Machine::COMMON],
-    private: &mut [u16; Machine::PRIVATE],
-) -> io::Result<Machine> {
-    say_written(rt, path, d, kernel::record(m, d, common, private))?;
-    let x = run::done(m, d as u16, 0, 0, common, private);
-    Ok(x.machine)
-}
-
-// Who idles goes on: the next turn, which then counts nothing, sees to the clock.
-fn followed(
-    rt: &impl Print,
-    m: Machine,
-    ended: Ended,
-    o: Options,
-    path: &[u8],
-    common: &mut [u16; Machine::COMMON],
-    private: &mut [u16; Machine::PRIVATE],
-) -> io::Result<Turn> {
-    match ended {
-        Ended::Onward => Ok(on(m)),
-        Ended::Idle => Ok(on(m)),
-        Ended::Starting(d) => {
-            if o.serve {
-                Ok(on(served(rt, m, d, path, common, private)?))
-            } else {
-                Ok(over(m, End::Started(d)))
+    // How the run ends, and after how many instructions. A turn goes to the next tick and counts no more than that; one that counts
+    // nothing finds nobody running, and the clock ticks on while somebody waits for it. A machine that goes on refuses no tick.
+    pub(crate) fn follow(&mut self, rt: &impl Print, o: Options) -> io::Result<(End, u32)> {
+        let mut count = 0;
+        let mut next = o.tick;
+        let mut idle = IDLE;
+        // a `while`: a turn counts as many as it will
+        while count < o.budget {
+            let quota = next.min(o.budget - count);
+            let turn = run::run(
+                self.machine,
+                self.code,
+                quota,
+                &mut self.common,
+                &mut self.private,
+            );
+            let n = turn.count.min(quota);
+            self.machine = turn.machine;
+            count += n;
+            next -= n;
+            if let Some(end) = self.end_of(rt, turn.reply, o.serve)? {
+                return Ok((end, count));
+            }
+            if n == 0 {
+                if self.machine.clock.len == 0 {
+                    return Ok((End::Idle, count));
+                }
+                if idle == 0 {
+                    return Ok((End::Waited, count));
+                }
+                idle -= 1;
+                next = 0;
+            }
+            if next == 0 {
+                self.machine = run::tick(self.machine).machine;
+                next = o.tick;
             }
         }
-        Ended::Stopped => Ok(over(m, End::Stopped)),
+        Ok((End::Budget, count))
     }
-}
-
-// What follows a turn's instructions.
-fn settled(
-    rt: &impl Print,
-    x: Offered,
-    o: Options,
-    path: &[u8],
-    common: &mut [u16; Machine::COMMON],
-    private: &mut [u16; Machine::PRIVATE],
-) -> io::Result<Turn> {
-    let m = x.machine;
-    let reply = x.reply;
-    match reply {
-        Reply::Did(ended) => followed(rt, m, ended, o, path, common, private),
-        Reply::Refused(r) => Ok(over(m, End::Refused(r))),
-    }
-}
-
-fn least(a: u32, b: u32) -> u32
-    ensures { (result ≤ a) × (result ≤ b) }
-{
-    if a < b { a } else { b }
-}
-
-// How it ends where nobody runs and no tick is given: there may still be some who wait for the clock.
-fn idle_end(m: Machine) -> End {
-    let clock = m.clock;
-    if clock.len == 0 {
-        End::Idle
-    } else {
-        End::Waited
-    }
-}
-
-// The ticks that are left for an idle machine: none where nobody waits for the clock.
-fn ticks_left(m: Machine, idle: u32) -> u32
-    ensures { result ≤ idle }
-{
-    let clock = m.clock;
-    if clock.len == 0 { 0 } else { idle }
-}
-
-fn ended(machine: Machine, end: End, count: u32) -> Course {
-    Course {
-        machine,
-        end,
-        count,
-    }
-}
-
-// A turn goes to the next tick and counts no more than that; one that counts nothing finds nobody running.
-pub(crate) fn follow(
-    rt: &impl Print,
-    start: Machine,
-    o: Options,
-    path: &[u8],
-    code: &[u16],
-    common: &mut [u16; Machine::COMMON],
-    private: &mut [u16; Machine::PRIVATE],
-) -> io::Result<Course> {
-    let mut machine = start;
-    let mut count: u32 = 0;
-    let mut next = o.tick;
-    let mut idle = IDLE;
-    while count < o.budget {
-        let quota = least(o.budget - count, next);
-        let x = run::run(machine, code, quota, common, private);
-        let n = least(x.count, quota);
-        let turn = settled(rt, x, o, path, common, private)?;
-        machine = turn.machine;
-        count = count + n;
-        next = next - n;
-        if !turn.goes {
-            let end = turn.end;
-            return Ok(ended(machine, end, count));
-        }
-        if n == 0 {
-            let ticks = ticks_left(machine, idle);
-            if ticks == 0 {
-                return Ok(ended(machine, idle_end(machine), count));
-            }
-            idle = ticks - 1;
-            next = 0;
-        }
-        if next == 0 {
-            machine = ticked(machine);
-            next = o.tick;
-        }
-    }
-    Ok(ended(machine, End::Budget, count))
 }

@@ -1,5 +1,6 @@
 // Where a process is: each created process is in exactly one place.
-use machine::{Machine, Queue};
+use machine::{Gate, Machine, Queue};
+use shown::Line;
 
 #[derive(Clone, Copy)]
 pub(crate) enum Place {
@@ -11,100 +12,72 @@ pub(crate) enum Place {
     Device(u8),
     Bell,
     Ended,
-    Nowhere,
 }
 
-// The place of q in a queue, from 1; 0 where it is not in it.
-fn standing(queue: Queue, q: u8) -> u8 {
-    for i in 0..Machine::PROCESSES {
-        if i < queue.len {
-            if queue.at[i as usize] == q {
-                return i + 1;
-            }
+impl Place {
+    pub(crate) fn put(self, line: Line) -> Line {
+        match self {
+            Place::Running => line.put(b"running"),
+            Place::Ready(c) => line.put(b"ready in class ").number(u64::from(c)),
+            Place::Gate(g, k) => line
+                .put(b"waiting at gate ")
+                .number(u64::from(g))
+                .put(b", place ")
+                .number(u64::from(k)),
+            Place::Cell(g, c) => line
+                .put(b"delayed at gate ")
+                .number(u64::from(g))
+                .put(b", cell ")
+                .number(u64::from(c)),
+            Place::Clock => line.put(b"waiting for the clock"),
+            Place::Device(d) => line.put(b"waiting for the ").device(d),
+            Place::Bell => line.put(b"waiting for the bell"),
+            Place::Ended => line.put(b"ended"),
         }
     }
-    0
 }
 
-// The cell where q sits, or one past the last.
-fn cell_of(cells: [u8; Machine::CELLS as usize], q: u8) -> u8 {
-    for c in 0..Machine::CELLS {
-        if cells[c as usize] == q {
-            return c;
-        }
-    }
-    Machine::CELLS
+// The place of q in a queue, from 1.
+fn standing(queue: &Queue, q: u8) -> Option<u8> {
+    let (k, _) = (1..=queue.len).zip(&queue.at).find(|(_, p)| **p == q)?;
+    Some(k)
 }
 
-fn at_gate(m: Machine, q: u8) -> Place {
-    for g in 0..Machine::GATES {
-        let gate = m.gates[g as usize];
-        let queue = gate.queue;
-        let cells = gate.cells;
-        let k = standing(queue, q);
-        if 0 < k {
-            return Place::Gate(g, k);
-        }
-        let c = cell_of(cells, q);
-        if c < Machine::CELLS {
-            return Place::Cell(g, c);
-        }
+fn at_gate(g: u8, gate: &Gate, q: u8) -> Option<Place> {
+    if let Some(k) = standing(&gate.queue, q) {
+        return Some(Place::Gate(g, k));
     }
-    Place::Nowhere
-}
-
-// The device that q waits for, or 5.
-fn device_of(m: Machine, q: u8) -> u8 {
-    for d in 0..5u8 {
-        let x = m.devices[d as usize];
-        if x.process == q {
-            return d;
-        }
-    }
-    5
-}
-
-// The class in which q is ready, or 3.
-fn ready_class(m: Machine, q: u8) -> u8 {
-    for c in 0..3u8 {
-        let queue = m.ready[c as usize];
-        let k = standing(queue, q);
-        if 0 < k {
-            return c;
-        }
-    }
-    3
+    let (c, _) = (0..).zip(&gate.cells).find(|(_, p)| **p == q)?;
+    Some(Place::Cell(g, c))
 }
 
 // Waiting for the clock, for the bell, for a device, or at a gate.
-fn waiting(m: Machine, q: u8) -> Place {
-    let clock = m.clock;
-    let bell = m.bell;
-    let at_clock = standing(clock, q);
-    if 0 < at_clock {
-        return Place::Clock;
+fn waiting(m: &Machine, q: u8) -> Option<Place> {
+    if standing(&m.clock, q).is_some() {
+        return Some(Place::Clock);
     }
-    let at_bell = standing(bell, q);
-    if 0 < at_bell {
-        return Place::Bell;
+    if standing(&m.bell, q).is_some() {
+        return Some(Place::Bell);
     }
-    let d = device_of(m, q);
-    if d < 5 {
-        return Place::Device(d);
+    if let Some((d, _)) = (0..).zip(&m.devices).find(|(_, x)| x.process == q) {
+        return Some(Place::Device(d));
     }
-    at_gate(m, q)
+    (0..)
+        .zip(&m.gates)
+        .find_map(|(g, gate)| at_gate(g, gate, q))
 }
 
-pub(crate) fn place_of(m: Machine, q: u8, ended: bool) -> Place {
+pub(crate) fn place_of(m: &Machine, q: u8, ended: bool) -> Option<Place> {
     if ended {
-        return Place::Ended;
+        return Some(Place::Ended);
     }
     if m.running == q {
-        return Place::Running;
+        return Some(Place::Running);
     }
-    let class = ready_class(m, q);
-    if class < 3 {
-        return Place::Ready(class);
+    for (class, queue) in (0..).zip(&m.ready) {
+        if standing(queue, q).is_some() {
+            return Some(Place::Ready(class));
+        }
     }
     waiting(m, q)
 }

@@ -5,6 +5,6 @@ mod file;
 mod line;
 mod words;
 
-pub use file::{File, read_image};
+pub use file::read_image;
 pub use line::Line;
-pub use words::{say, say_refusal};
+pub use words::say_refusal;

@@ -1,37 +1,15 @@
 // A line to be shown: what is put into it stands in columns that its maker chooses.
-ghost use Rattle.std.specs.Prelude.{◌≡◌, ◌<◌, drop};
+ghost use Rattle.std.specs.Prelude.{◌≡◌};
 ghost use Rattle.shown.specs.Line.{bytes, empty, pushed, put_all, to_column, decimal, right_to, signed_word, device_name};
 
 use std::io;
 
-// The first len bytes of text; those after are spaces, so that a column is reached by a longer line.
+// The first len bytes of text; those after are spaces, so that a column is reached by a longer line. Memory is fixed, and specs/Line
+// speaks of both fields.
 #[derive(Clone, Copy)]
 pub struct Line {
     len: usize,
     text: [u8; 120],
-}
-
-fn write_first(rt: &impl Print, n: usize, text: &[u8]) -> io::Result<()> {
-    if n <= text.len() {
-        rt.write_all(&text[..n])?;
-    }
-    Ok(())
-}
-
-// Puts a number's decimal digits at the end of the array, and returns where they begin.
-fn decimal(n: u64, digits: &mut [u8; 20]) -> usize
-    ensures some { result < 20 }
-    ensures digits { drop result digits.new ≡ decimal n }
-{
-    let mut at = 19;
-    let mut rest = n;
-    while 10 <= rest {
-        digits[at] = b'0' + (rest % 10) as u8;
-        rest /= 10;
-        at -= 1;
-    }
-    digits[at] = b'0' + rest as u8;
-    at
 }
 
 impl Line {
@@ -49,23 +27,21 @@ impl Line {
     fn push(mut self, b: u8) -> Line
         ensures { result ≡ pushed self b }
     {
-        let n = self.len;
-        if n < 120 {
-            self.text[n] = b;
-            self.len = n + 1;
+        if self.len < 120 {
+            self.text[self.len] = b;
+            self.len += 1;
         }
         self
     }
 
-    pub fn put(self, words: &[u8]) -> Line
+    #[tactic(auto, using(crate::proofs::Laws::put_more), unfolding(crate::specs::Line::put_all))]
+    pub fn put(mut self, words: &[u8]) -> Line
         ensures { result ≡ put_all self words.now }
     {
-        let mut line = self;
-        let n = words.len();
-        for i in 0..n {
-            line = line.push(words[i]);
+        for b in words {
+            self = self.push(*b);
         }
-        line
+        self
     }
 
     // What follows begins at a column, where that is not passed yet.
@@ -73,32 +49,28 @@ impl Line {
     pub fn to(mut self, column: usize) -> Line
         ensures { result ≡ to_column self column }
     {
-        let n = self.len;
-        if n < column {
-            if column <= 120 {
-                self.len = column;
-            }
+        if self.len < column && column <= 120 {
+            self.len = column;
         }
         self
     }
 
+    #[tactic(auto, using(crate::proofs::Laws::digits))]
     pub fn number(self, n: u64) -> Line
         ensures { result ≡ put_all self (decimal n) }
     {
-        let mut digits = [0u8; 20];
-        let k = decimal(n, &mut digits);
-        self.put(&digits[k..])
+        self.put(itoa::Buffer::new().format(n).as_bytes())
     }
 
     // A number that ends at a column.
+    #[tactic(auto, using(crate::proofs::Laws::digits))]
     pub fn right(self, n: u64, column: usize) -> Line
         ensures { result ≡ right_to self n column }
     {
-        let mut digits = [0u8; 20];
-        let first = decimal(n, &mut digits);
-        let width = 20 - first;
-        let start = if width < column { column - width } else { 0 };
-        self.to(start).put(&digits[first..])
+        let mut buffer = itoa::Buffer::new();
+        let digits = buffer.format(n);
+        self.to(column.saturating_sub(digits.len()))
+            .put(digits.as_bytes())
     }
 
     // A word, signed.
@@ -106,7 +78,7 @@ impl Line {
     pub fn word(self, x: u16) -> Line
         ensures { result ≡ signed_word self x }
     {
-        let n = x as u64;
+        let n = u64::from(x);
         if n < 32768 {
             self.number(n)
         } else {
@@ -114,7 +86,7 @@ impl Line {
         }
     }
 
-    // A device's name.
+    // A device's name. The machine knows a device by its number, and so does specs/Line; a table of names did not prove.
     pub fn device(self, d: u8) -> Line
         ensures { result ≡ put_all self (bytes (device_name d)) }
     {
@@ -129,8 +101,9 @@ impl Line {
 
     // Writes the line and its end.
     pub fn say(self, rt: &impl Print) -> io::Result<()> {
-        let text = self.text;
-        write_first(rt, self.len, &text)?;
-        rt.write_all(b"\n")
+        if let Some(text) = self.text.get(..self.len) {
+            rt.write_all(text)?;
+        }
+        println!(rt)
     }
 }

@@ -1,25 +1,28 @@
-// Words on the standard output.
+// A refusal in words.
 ghost use Rattle.std.specs.Prelude.{◌≡◌};
 ghost use Rattle.shown.specs.Line.{put_all};
-ghost use Rattle.shown.specs.Refused.{block_words, refusal_line};
+ghost use Rattle.shown.specs.Refused.{block_words, reason, refusal_line};
 
 use crate::line::Line;
 use image::Refusal;
 use std::io;
-
-pub fn say(rt: &impl Print, text: &[u8]) -> io::Result<()> {
-    rt.write_all(text)
-}
 
 // The table's number and words.
 pub fn say_refusal(rt: &impl Print, r: Refusal) -> io::Result<()> {
     refusal_line(r).say(rt)
 }
 
+#[tactic(auto, using(crate::proofs::Laws::put_both), unfolding(crate::specs::Line::bytes))]
 fn refusal_line(r: Refusal) -> Line
     ensures { result ≡ refusal_line r }
 {
-    let line = Line::new().put(b"refused, ");
+    reason(Line::new().put(b"refused, "), r)
+}
+
+#[tactic(auto, unfolding(crate::specs::Line::bytes, crate::specs::Refused::reason))]
+fn reason(line: Line, r: Refusal) -> Line
+    ensures { result ≡ put_all line (reason r) }
+{
     match r {
         Refusal::Length => line.put(b"1: its length is 0 or not a multiple of 512 bytes"),
         Refusal::Block(b) => block_line(line, b),
@@ -36,6 +39,7 @@ fn refusal_line(r: Refusal) -> Line
     }
 }
 
+#[tactic(auto, using(crate::proofs::Laws::put_three), unfolding(crate::specs::Line::bytes))]
 fn block_line(line: Line, b: usize) -> Line
     ensures { result ≡ put_all line (block_words b) }
 {

@@ -5,13 +5,10 @@ use Prim.Native.Nat.{ℕ, zero, suc, ◌+◌, ◌*◌, ◌≤◌, ◌<◌}
 use native.Mathlib.Nat.{suc-mul}
 use native.Mathlib.Omega.{arith}
 use lib.Dec.{leb, eqb}
-use borrow.Author.Rules.{rules}
-use borrow.Author.Tests.{lt-ltb, le-ltb, le-leb, lt-leb, eq-eqb, ne_eqb}
+use borrow.Author.Tests.{le-leb, lt-leb, ne_eqb}
 use Rattle.notation.specs.Upto.{sum_to, all_to}
 use Rattle.notation.proofs.Upto.{below?}
 use Rattle.word.specs.Word.{bit}
-
-pub ruleset cases = (rules, lt-ltb, le-ltb, le-leb, lt-leb, eq-eqb, ne_eqb)
 
 -- ---- tests of all
 pub all_same : (p q : ℕ → Bool) (n : ℕ) → ((k : ℕ) → k < n → p k ≡ q k) → all_to p n ≡ all_to q n
@@ -29,6 +26,18 @@ all_first p n (suc k) h =
     let e : suc k ≡ n = omega arith in
     subst (λ (x : ℕ). all_to (λ i. leb x i || p i) (suc k) ≡ all_to p x) e (all_same (λ i. leb (suc k) i || p i) p (suc k) (λ i l. rw (lt-leb (suc k) i l))))
     (λ b. rw (all_first p n k b, le-leb n k b) (and-true _))
+
+-- two tests of all are a test of both
+swapped : (a b c d : Bool) → (a && b) && (c && d) ≡ (a && c) && (b && d)
+swapped true true c d = refl
+swapped true false true d = refl
+swapped true false false d = refl
+swapped false b c d = refl
+
+pub all_both : (p q : ℕ → Bool) (n : ℕ) → all_to p n && all_to q n ≡ all_to (λ k. p k && q k) n
+unfolding all_to
+all_both p q zero = refl
+all_both p q (suc n) = rw (← all_both p q n) (swapped (all_to p n) (p n) (all_to q n) (q n))
 
 -- ---- sums
 pub sum-most : (f : ℕ → ℕ) (b n : ℕ) → ((k : ℕ) → k < n → f k ≤ b) → sum_to f n ≤ n * b

@@ -5,7 +5,7 @@ ghost use Rattle.std.specs.Prelude.{◌≡◌, true, ◌≤◌};
 ghost use Rattle.machine.specs.Sound.{sound};
 ghost use Rattle.sound.specs.Test.{parts_ok, processes_ok};
 
-use machine::Machine;
+use machine::{Machine, Process};
 
 mod device;
 mod gate;
@@ -17,58 +17,42 @@ mod ready;
 mod tally;
 
 // "A sound state", exactly. The numbers come first: what is tested after them stands on their ranges.
+#[tactic(auto, using(crate::proofs::Whole::tested))]
 pub fn is_sound(m: Machine) -> bool
     ensures { result ≡ sound m }
 {
-    let numbers = numbers::are_ok(m);
-    if !numbers {
-        return false;
-    }
-    let parts = parts_are_ok(m);
-    if !parts {
-        return false;
-    }
-    processes_are_ok(m)
+    numbers::are_ok(&m) && parts_are_ok(&m) && processes_are_ok(&m)
 }
 
 // The ready, the clock, the bell, the devices and the gates, each by itself.
-fn parts_are_ok(m: Machine) -> bool
-    requires { m.created ≤ 10 }
-    ensures { result ≡ parts_ok m }
+#[tactic(auto, using(crate::proofs::Whole::parts_row))]
+fn parts_are_ok(m: &Machine) -> bool
+    requires { m.now.created ≤ 10 }
+    ensures { result ≡ parts_ok m.now }
 {
-    let processes = m.processes;
-    let waiting = m.ready;
-    let clock = m.clock;
-    let bell = m.bell;
-    let busy = m.devices;
-    let gates = m.gates;
-    let created = m.created;
-    let made = m.made;
-    let present = m.present;
-    let classes = ready::are_ok(processes, created, waiting);
-    let timed = queue::is_ok(clock, created);
-    let rung = queue::is_ok(bell, created);
-    let devices = device::are_ok(busy, created, present);
-    let shut = gate::are_ok(gates, created, made);
-    classes & timed & rung & devices & shut
+    // First, since the proof knows the lengths of the arrays by the slices lent here.
+    let classes = ready::are_ok(&m.processes, m.created, &m.ready);
+    let devices = device::are_ok(&m.devices, m.created, m.present);
+    let gates = gate::are_ok(&m.gates, m.created, m.made);
+    classes
+        && queue::is_ok(&m.clock, m.created)
+        && queue::is_ok(&m.bell, m.created)
+        && devices
+        && gates
 }
 
 // The created processes: one pass over the parts counts how often each stands where.
-fn processes_are_ok(m: Machine) -> bool
-    requires { (m.created ≤ 10) × (parts_ok m ≡ true) }
-    ensures { result ≡ processes_ok m }
+#[tactic(auto, using(crate::proofs::Whole::few))]
+fn processes_are_ok(m: &Machine) -> bool
+    requires { (m.now.created ≤ 10) × (parts_ok m.now ≡ true) }
+    ensures { result ≡ processes_ok m.now }
 {
-    let processes = m.processes;
-    let waiting = m.ready;
-    let clock = m.clock;
-    let bell = m.bell;
-    let busy = m.devices;
-    let gates = m.gates;
-    let here = tally::of_ready(m.running, waiting);
-    let at_gates = tally::of_gates(gates);
-    let elsewhere = tally::of_waits(clock, bell, busy);
-    let holders = held::holders_of(gates);
-    process::are_ok(
-        m.length, &holders, &here, &at_gates, &elsewhere, processes, m.created,
-    )
+    let here = tally::of_ready(m.running, &m.ready);
+    let at_gates = tally::of_gates(&m.gates);
+    let elsewhere = tally::of_waits(&m.clock, &m.bell, &m.devices);
+    let holders = held::holders_of(&m.gates);
+    // By a slice of all the proof knows their number.
+    let processes: &[Process] = &m.processes;
+    let created = &processes[..usize::from(m.created)];
+    process::are_ok(m.length, &holders, &here, &at_gates, &elsewhere, created)
 }

@@ -1,64 +1,50 @@
 // The ready processes, by class.
-ghost use Rattle.std.specs.Prelude.{◌≡◌, ℕ, ◌≤◌, ◌<◌, get_or, eqb};
-ghost use Rattle.notation.specs.Upto.{all_to};
-ghost use Rattle.machine.specs.State.{no_process, no_queue};
+ghost use Rattle.std.specs.Prelude.{◌≡◌, ◌&&◌, ◌≤◌, ltb, eqb, get_or};
+ghost use Rattle.std.specs.List.{list_all, enumerate_from};
+ghost use Rattle.machine.specs.State.{no_process};
 ghost use Rattle.sound.specs.Test.{class_in};
 
 use crate::queue;
 use machine::{Machine, Process, Queue};
 
-// The first len are of the class.
+// They are created processes, and "ready in its class". At most 10 are created: asked in each contract here, since the machine's types,
+// which stay, do not hold it.
 fn are_of(
-    processes: [Process; Machine::PROCESSES as usize],
-    class: u8,
-    at: [u8; Machine::PROCESSES as usize],
-    len: u8,
-) -> bool
-    requires { (len ≤ 10) × ((k : ℕ) → k < len → get_or at k 0 < 10) }
-    ensures { result ≡ all_to (λ k. eqb (get_or processes (get_or at k 0) no_process).class class) len }
-{
-    let mut ok = true;
-    for k in 0..len {
-        let x = at[k as usize];
-        let c = processes[x as usize].class;
-        ok = ok & (c == class);
-    }
-    ok
-}
-
-// "ready in its class".
-fn is_ok(
-    processes: [Process; Machine::PROCESSES as usize],
+    who: &[u8],
+    processes: &[Process; Machine::PROCESSES as usize],
     created: u8,
-    class: u8,
-    q: Queue,
+    class: usize,
 ) -> bool
     requires { created ≤ 10 }
-    ensures { result ≡ class_in created processes class q }
+    ensures { result ≡ list_all (λ x. ltb x created && eqb (get_or processes.now x no_process).class class) who.now }
 {
-    let queue = queue::is_ok(q, created);
-    if !queue {
-        return false;
-    }
-    let at = q.at;
-    let len = q.len;
-    are_of(processes, class, at, len)
+    who.iter().all(|&x| x < created && usize::from(processes[usize::from(x)].class) == class)
+}
+
+#[tactic(auto, using(crate::proofs::Parts::class_row, crate::proofs::Parts::class_long))]
+fn is_ok(
+    processes: &[Process; Machine::PROCESSES as usize],
+    created: u8,
+    class: usize,
+    q: &Queue,
+) -> bool
+    requires { created ≤ 10 }
+    ensures { result ≡ class_in created processes.now class q.now }
+{
+    q.len <= Machine::PROCESSES && are_of(queue::standing(q), processes, created, class)
 }
 
 // All three classes.
 pub(crate) fn are_ok(
-    processes: [Process; Machine::PROCESSES as usize],
+    processes: &[Process; Machine::PROCESSES as usize],
     created: u8,
-    ready: [Queue; 3],
+    ready: &[Queue],
 ) -> bool
     requires { created ≤ 10 }
-    ensures { result ≡ all_to (λ c. class_in created processes c (get_or ready c no_queue)) 3 }
+    ensures { result ≡ list_all (λ x. class_in created processes.now x.0 x.1) (enumerate_from 0 ready.now) }
 {
-    let a = ready[0];
-    let b = ready[1];
-    let c = ready[2];
-    let holding = is_ok(processes, created, 0, a);
-    let served = is_ok(processes, created, 1, b);
-    let others = is_ok(processes, created, 2, c);
-    holding & served & others
+    ready
+        .iter()
+        .enumerate()
+        .all(|(c, q)| is_ok(processes, created, c, q))
 }

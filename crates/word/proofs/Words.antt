@@ -1,360 +1,279 @@
--- Why reckoning with differences of naturals is reckoning with signed words.
--- First laws of differences; then a word's value as one; then each operation, by what the code knows where it returns.
+-- Why the language's own signed numbers reckon as the definitions do.
 use mathlib.Core.Path.{◌≡◌, refl, sym, ap, ◌∙◌}
-use mathlib.Core.Bool.{Bool, true, false, not, ◌&&◌}
-use Prim.Native.Nat.{ℕ, zero, suc, ◌+◌, ◌-◌, ◌*◌, ◌/◌, ◌%◌, ◌≤◌, ◌<◌}
+use mathlib.Core.Bool.{Bool, true, false, ◌&&◌}
+use Prim.Native.Nat.{ℕ, zero, suc, ◌+◌, ◌/◌, ◌≤◌, ◌<◌}
 use native.Mathlib.Omega.{arith}
-use native.Mathlib.Nat.{mul-le-mul}
-use lib.Dec.{ltb, leb, eqb, leb-zero}
-use lib.IntN.{ℤ, pos, negsuc, neg_ℤ, sub_ℕ, nat_abs, ◌+ℤ◌, ◌-ℤ◌, ◌*ℤ◌}
-use lib.Signed.{lt_z, le_z, quot_z, rem_z}
-use mir.Syntax.{w64}
-use mir.Val.{Fits}
-use borrow.Author.Tests.{lt-ltb, le-ltb, le-leb, lt-leb, eq-eqb, ne_eqb, ltb-false}
+use native.Mathlib.Nat.{mul-le-mul, div-le_self}
+use native.Mathlib.Numerals.{unary_clauses}
+use lib.Dec.{eqb}
+use lib.IntN.{ℤ, pos, negsuc, neg_ℤ, nat_abs, ◌+ℤ◌, ◌-ℤ◌, ◌*ℤ◌}
+use lib.Signed.{le_z, quot_z, rem_z, mag, mag_rem, ◌≤ℤ◌, ◌<ℤ◌, ≤ℤ_refl}
+use mir.Syntax.{w16, w32, w64}
+use mir.Val.{SFits, to_z, of_z, bool_byte as from_bool}
+use borrow.Author.Rules.{rules}
+use borrow.Author.Tests.{eqb-true, eqb-false, lt-ltb, le-ltb, le-leb, lt-leb, eq-eqb, ne_eqb, ltb-false}
 use Rattle.notation.specs.If.{if}
 use Rattle.notation.proofs.Upto.{below?}
-use Rattle.word.specs.declared.Answer.{Answer}
-use Rattle.word.specs.declared.Answer.TheVariants.{Word, Fault}
-use Rattle.word.specs.Word.{Reckoned, word, fault, said, signed, word_of, within, eq_z, fitted, indexed}
-use Rattle.word.specs.Word.{local_addr_w, index_w, range_w, case_w, neg_w, add_w, sub_w, mul_w, div_w, mod_w, less_w}
-use Rattle.word.specs.Whole.{biased, magnitude, by_signs}
+use Rattle.std.specs.Prelude.{Result, Err}
+use Rattle.std.specs.Int.{FitsUnsignedBits}
+use Rattle.std.proofs.lemmas.Int.{ints, to_z-of_z, of_z-to_z, by_lt_z, fits_signed_from_abs, unsigned_abs-mul}
+use Rattle.word.specs.declared.Fault.{Fault}
+use Rattle.word.specs.Word.{Reckoned, word, fault, number_of, said, signed, word_of, within, is_zero, fitted, indexed}
+use Rattle.word.specs.Word.{index_w, range_w, case_w, div_w, mod_w, equal_w}
 
--- A difference is negative or it isn't
-sub_is_negsuc : (a b n : ℕ) → a + suc n ≡ b → sub_ℕ a b ≡ negsuc n
-sub_is_negsuc a b n h = rw (lt-ltb a b (omega arith)) (ap negsuc (omega arith))
+-- each test on the way, as the definitions have it
+pub ruleset tests = (rules, lt-ltb, le-ltb, eq-eqb, ne_eqb)
 
-sub_is_pos : (a b n : ℕ) → b + n ≡ a → sub_ℕ a b ≡ pos n
-sub_is_pos a b n h = rw (le-ltb a b (omega arith)) (ap pos (omega arith))
+-- A word's value is the signed number of the same bits
+signed_is : (x : ℕ) → x < 65536 → to_z w16 x ≡ signed x
+unfolding signed
+signed_is x h =
+    below? x 32768
+    (λ l. rw (lt-ltb x 32768 l))
+    (λ l. rw (le-ltb x 32768 l, lt-ltb x 65536 h) (simp unary_clauses))
 
-by_sign : (P : ℤ → Type 0) (a b : ℕ) → ((n : ℕ) → a + suc n ≡ b → P (negsuc n)) → ((n : ℕ) → b + n ≡ a → P (pos n))
-    → P (sub_ℕ a b)
-by_sign P a b f g =
-    below? a b
-    (λ l. rw (sub_is_negsuc a b (b - suc a) (omega arith)) (f _ (omega arith)))
-    (λ l. rw (sub_is_pos a b (a - b) (omega arith)) (g _ (omega arith)))
+pub value_is : {x : ℕ} {y z : ℤ} → x < 65536 → y ≡ to_z w16 x → z ≡ to_z w16 (of_z w16 y)
+    → (to_z w32 (of_z w32 z) ≡ signed x) × SFits w16 (to_z w32 (of_z w32 z))
+value_is {x} {y} {z} h e k =
+    let is : to_z w32 (of_z w32 z) ≡ to_z w16 x = omega (arith, ints) in
+    (is ∙ signed_is x h, omega (arith, ints))
 
-sub_is_sub : (a b c d : ℕ) → a + d ≡ c + b → sub_ℕ a b ≡ sub_ℕ c d
-sub_is_sub a b c d h =
-    by_sign (λ z. z ≡ sub_ℕ c d) a b
-    (λ n g. sym (sub_is_negsuc c d n (omega arith)))
-    (λ n g. sym (sub_is_pos c d n (omega arith)))
+signed_injective : {a b : ℕ} → a < 65536 → b < 65536 → signed a ≡ signed b → a ≡ b
+signed_injective {a} {b} ha hb e =
+    let same : to_z w16 a ≡ to_z w16 b = signed_is a ha ∙ e ∙ sym (signed_is b hb) in
+    sym (of_z-to_z w16 a ha) ∙ ap (of_z w16) same ∙ of_z-to_z w16 b hb
 
-pos_is_sub : (n : ℕ) → pos n ≡ sub_ℕ n 0
-pos_is_sub n = sym (sub_is_pos n 0 n (omega arith))
+-- A whole number as a word
+pub word_fits : (z : ℤ) → SFits w16 z → word (of_z w16 z) ≡ fitted z
+unfolding fitted
+word_fits (pos n) f = let h : n ≤ 32767 = omega (arith, f.sfits) in rw (le-leb n 32767 h)
+word_fits (negsuc n) f = let h : n ≤ 32767 = omega (arith, f.sfits) in rw (le-leb n 32767 h) (ap word (omega arith))
 
-neg_is_sub : (n : ℕ) → neg_ℤ (pos n) ≡ sub_ℕ 0 n
-neg_is_sub zero = refl
-neg_is_sub (suc n) = sym (sub_is_negsuc 0 (suc n) n (omega arith))
+pub word_unfit : (z : ℤ) → (SFits w16 z → ⊥) → fault 1 ≡ fitted z
+unfolding fitted
+word_unfit (pos n) f = below? n 32768 (λ l. absurd (f (record { sfits = l }))) (λ l. rw (lt-leb n 32767 (omega arith)))
+word_unfit (negsuc n) f = below? n 32768 (λ l. absurd (f (record { sfits = l }))) (λ l. rw (lt-leb n 32767 (omega arith)))
 
--- Sums, negatives, differences and the order of differences
-sub_plus_sub : (a b c d : ℕ) → sub_ℕ a b +ℤ sub_ℕ c d ≡ sub_ℕ (a + c) (b + d)
-sub_plus_sub a b c d =
-    by_sign (λ y. y +ℤ sub_ℕ c d ≡ sub_ℕ (a + c) (b + d)) a b
-    (λ n h. by_sign (λ z. negsuc n +ℤ z ≡ sub_ℕ (a + c) (b + d)) c d
-    (λ m g. sym (sub_is_negsuc (a + c) (b + d) (suc (n + m)) (omega arith)))
-    (λ m g. sub_is_sub m (suc n) (a + c) (b + d) (omega arith)))
-    (λ n h. by_sign (λ z. pos n +ℤ z ≡ sub_ℕ (a + c) (b + d)) c d
-    (λ m g. sub_is_sub n (suc m) (a + c) (b + d) (omega arith))
-    (λ m g. sym (sub_is_pos (a + c) (b + d) (n + m) (omega arith))))
+pub ruleset fits = (word_fits, word_unfit)
 
-neg_sub : (a b : ℕ) → neg_ℤ (sub_ℕ a b) ≡ sub_ℕ b a
-neg_sub a b =
-    by_sign (λ z. neg_ℤ z ≡ sub_ℕ b a) a b
-    (λ n h. sym (sub_is_pos b a (suc n) (omega arith)))
-    (λ n h. neg_is_sub n ∙ sub_is_sub 0 n b a (omega arith))
+-- What the code keeps between two steps is the number itself where that fits
+abbrev held : ℤ → ℤ
+held z = to_z w32 (of_z w32 z)
 
-sub_minus_sub : (a b k : ℕ) → sub_ℕ a k -ℤ sub_ℕ b k ≡ sub_ℕ a b
-sub_minus_sub a b k = rw (neg_sub b k) (sub_plus_sub a k k b ∙ sub_is_sub (a + k) (k + b) a b (omega arith))
+pub kept : {z y : ℤ} → SFits w16 z → z ≡ y → held z ≡ y
+kept {z} f e = to_z-of_z w32 z (omega (arith, ints)) ∙ e
 
-ltb_is_ltb : (a b c d : ℕ) → (a < b → c < d) → (b ≤ a → d ≤ c) → ltb a b ≡ ltb c d
-ltb_is_ltb a b c d f g =
-    below? a b
-    (λ l. lt-ltb a b l ∙ sym (lt-ltb c d (f l)))
-    (λ l. le-ltb a b l ∙ sym (le-ltb c d (g l)))
+pub reckoned : {z y : ℤ} {q : Reckoned} → q ≡ fitted (held z) → SFits w32 z → z ≡ y → q ≡ fitted y
+reckoned {z} e f k = e ∙ ap fitted (to_z-of_z w32 z f ∙ k)
 
-sub_lt_sub : (a b k : ℕ) → lt_z (sub_ℕ a k) (sub_ℕ b k) ≡ ltb a b
-sub_lt_sub a b k =
-    by_sign (λ y. lt_z y (sub_ℕ b k) ≡ ltb a b) a k
-    (λ n h. by_sign (λ z. lt_z (negsuc n) z ≡ ltb a b) b k
-    (λ m g. ltb_is_ltb m n a b (omega arith) (omega arith))
-    (λ m g. sym (lt-ltb a b (omega arith))))
-    (λ n h. by_sign (λ z. lt_z (pos n) z ≡ ltb a b) b k
-    (λ m g. sym (le-ltb a b (omega arith)))
-    (λ m g. ltb_is_ltb n m a b (omega arith) (omega arith)))
+pub ruleset values = (kept, reckoned)
 
-leb_is_not_ltb : (a b : ℕ) → leb a b ≡ not (ltb b a)
-leb_is_not_ltb a b =
-    below? b a
-    (λ l. rw (lt-leb a b l, lt-ltb b a l))
-    (λ l. rw (le-leb a b l, le-ltb b a l))
-
-le_z_is_not_lt_z : (y z : ℤ) → le_z y z ≡ not (lt_z z y)
-le_z_is_not_lt_z (pos a) (pos b) = leb_is_not_ltb a b
-le_z_is_not_lt_z (pos a) (negsuc b) = refl
-le_z_is_not_lt_z (negsuc a) (pos b) = refl
-le_z_is_not_lt_z (negsuc a) (negsuc b) = leb_is_not_ltb b a
-
--- A difference as a word
-module _ (s k : ℕ) where
-  pub too_low : s + 32768 < k → fault 1 ≡ fitted (sub_ℕ s k)
-  unfolding fitted
-  too_low h = rw (sub_is_negsuc s k (k - suc s) (omega arith), lt-leb (k - suc s) 32767 (omega arith))
-
-  pub too_high : k + 32768 ≤ s → fault 1 ≡ fitted (sub_ℕ s k)
-  unfolding fitted
-  too_high h = rw (sub_is_pos s k (s - k) (omega arith), lt-leb (s - k) 32767 (omega arith))
-
-  pub fits_below : k ≤ s + 32768 → s < k → word (s + 65536 - k) ≡ fitted (sub_ℕ s k)
-  unfolding fitted
-  fits_below g h = rw (sub_is_negsuc s k (k - suc s) (omega arith), le-leb (k - suc s) 32767 (omega arith)) (ap word (omega arith))
-
-  pub fits-above : s < k + 32768 → k ≤ s → word (s - k) ≡ fitted (sub_ℕ s k)
-  unfolding fitted
-  fits-above g h = rw (sub_is_pos s k (s - k) (omega arith), le-leb (s - k) 32767 (omega arith))
-
--- The value of a word, by its sign and as a difference
-module _ {x : ℕ} where
-  pub signed_is_pos : x < 32768 → signed x ≡ pos x
-  unfolding signed
-  signed_is_pos h = rw (lt-ltb x 32768 h)
-
-  pub signed_is_negsuc : (n : ℕ) → x + suc n ≡ 65536 → 32768 ≤ x → signed x ≡ negsuc n
-  unfolding signed
-  signed_is_negsuc n e h = rw (le-ltb x 32768 h) (sub_is_negsuc x 65536 n e)
-
-  by_value : (P : ℕ → Bool → ℤ → Type 0) → ((n : ℕ) → n < 32768 → P n true (pos n))
-      → ((m n : ℕ) → m + suc n ≡ 65536 → 32768 ≤ m → P m false (negsuc n)) → x < 65536 → P x (ltb x 32768) (signed x)
-  by_value P f g h =
-      below? x 32768
-      (λ l. rw (lt-ltb x 32768 l, signed_is_pos l) (f x l))
-      (λ l. rw (le-ltb x 32768 l, signed_is_negsuc (65535 - x) (omega arith) l) (g x (65535 - x) (omega arith) l))
-
-  signed_is_sub : x < 65536 → signed x ≡ sub_ℕ (biased x) 32768
-  unfolding biased
-  signed_is_sub =
-      by_value (λ y t z. z ≡ sub_ℕ (if t (y + 32768) (y - 32768)) 32768)
-      (λ n l. sym (sub_is_pos (n + 32768) 32768 n (omega arith)))
-      (λ m n e l. sym (sub_is_negsuc (m - 32768) 32768 n (omega arith)))
-
-  biased-biased : x < 65536 → biased (biased x) ≡ x
-  unfolding biased
-  biased-biased =
-      by_value (λ y t z. biased (if t (y + 32768) (y - 32768)) ≡ y)
-      (λ n l. rw (le-ltb (n + 32768) 32768 (omega arith)) (omega arith))
-      (λ m n e l. rw (lt-ltb (m - 32768) 32768 (omega arith)) (omega arith))
-
--- Two values
-module _ {a b : ℕ} (ha : a < 65536) (hb : b < 65536) where
-  signed_minus_signed : signed a -ℤ signed b ≡ sub_ℕ (biased a) (biased b)
-  signed_minus_signed = rw (signed_is_sub ha, signed_is_sub hb) (sub_minus_sub (biased a) (biased b) 32768)
-
-  signed_lt_signed : lt_z (signed a) (signed b) ≡ ltb (biased a) (biased b)
-  signed_lt_signed = rw (signed_is_sub ha, signed_is_sub hb) (sub_lt_sub (biased a) (biased b) 32768)
-
-  biased_injective : biased a ≡ biased b → a ≡ b
-  biased_injective e = sym (biased-biased ha) ∙ ap biased e ∙ biased-biased hb
-
-pub signed_eq_signed : {a b : ℕ} → a < 65536 → b < 65536 → eq_z (signed a) (signed b) ≡ eqb a b
-signed_eq_signed {a} {b} ha hb =
-    rw (le_z_is_not_lt_z (signed a) (signed b), le_z_is_not_lt_z (signed b) (signed a), signed_lt_signed ha hb, signed_lt_signed hb ha)
-    (below? (biased a) (biased b)
-    (λ l. rw (le-ltb (biased b) (biased a) (omega arith), lt-ltb (biased a) (biased b) l, ne_eqb a b (λ e. omega (arith, ap biased e))))
-    (λ l. below? (biased b) (biased a)
-    (λ m. rw (lt-ltb (biased b) (biased a) m, ne_eqb a b (λ e. omega (arith, ap biased e))))
-    (λ m. rw (le-ltb (biased b) (biased a) m, le-ltb (biased a) (biased b) l, eq-eqb a b (biased_injective ha hb (omega arith))))))
-
--- NEG and LOCALADDR, of one word that the code has biased
-module _ {q : Reckoned} {a x : ℕ} (ha : a < 65536) (ex : x ≡ biased a) where
-  pub is_neg : q ≡ fitted (sub_ℕ 32768 x) → q ≡ neg_w a
-  is_neg e = rw (signed_is_sub ha, neg_sub (biased a) 32768, ← ex) e
-
-  pub is_local_addr : (b : ℕ) → q ≡ fitted (sub_ℕ (b + x) 32768) → q ≡ local_addr_w b a
-  is_local_addr b e = rw (signed_is_sub ha, pos_is_sub b, sub_plus_sub b 0 (biased a) 32768, ← ex) e
-
--- ADD, SUB and LESS, of two
-module _ {a b x y : ℕ} (ha : a < 65536) (hb : b < 65536) (ex : x ≡ biased a) (ey : y ≡ biased b) where
-  pub is_add : {q : Reckoned} → q ≡ fitted (sub_ℕ (x + y) 65536) → q ≡ add_w a b
-  is_add e = rw (signed_is_sub ha, signed_is_sub hb, sub_plus_sub (biased a) 32768 (biased b) 32768, ← ex, ← ey) e
-
-  pub is_sub : {q : Reckoned} → q ≡ fitted (sub_ℕ x y) → q ≡ sub_w a b
-  is_sub e = rw (signed_minus_signed ha hb, ← ex, ← ey) e
-
-  pub is_less : x < y → 1 ≡ less_w a b
-  is_less h = rw (signed_lt_signed ha hb, ← ex, ← ey, lt-ltb x y h)
-
-  pub isnt_less : y ≤ x → 0 ≡ less_w a b
-  isnt_less h = rw (signed_lt_signed ha hb, ← ex, ← ey, le-ltb x y h)
-
--- An operation that is f of the sizes, with the sign of a product
-abbrev signed_as : Bool → Bool → ℕ → ℤ
-signed_as s t q = if s (if t (sub_ℕ q 0) (sub_ℕ 0 q)) (if t (sub_ℕ 0 q) (sub_ℕ q 0))
-
-module _
-    (op : ℤ → ℤ → ℤ)
-    (f : ℕ → ℕ → ℕ)
-    (pp : (x y : ℕ) → op (pos x) (pos y) ≡ pos (f x y))
-    (pn : (x y : ℕ) → op (pos x) (negsuc y) ≡ neg_ℤ (pos (f x (suc y))))
-    (np : (x y : ℕ) → op (negsuc x) (pos y) ≡ neg_ℤ (pos (f (suc x) y)))
-    (nn : (x y : ℕ) → op (negsuc x) (negsuc y) ≡ pos (f (suc x) (suc y)))
+-- DIV and MOD
+pub quot-fits : {y : ℤ} (z : ℤ) → SFits w16 y → SFits w32 (quot_z (held y) z)
+quot-fits {y} z f = record { sfits = omega (arith, ints, mag-quot (held y) z) }
   where
-    op_is_by_signs : {a b : ℕ} → a < 65536 → b < 65536 → op (signed a) (signed b) ≡ by_signs a b (f (magnitude a) (magnitude b))
-    unfolding by_signs
-    op_is_by_signs {a} {b} ha hb =
-        by_value (λ _ s y. op y (signed b) ≡ signed_as s (ltb b 32768) (f (nat_abs y) (magnitude b)))
-        (λ n _. by_value (λ _ t z. op (pos n) z ≡ signed_as true t (f n (nat_abs z)))
-        (λ m _. pp n m ∙ pos_is_sub _)
-        (λ _ m _ _. pn n m ∙ neg_is_sub (f n (suc m)))
-        hb)
-        (λ _ n _ _. by_value (λ _ t z. op (negsuc n) z ≡ signed_as false t (f (suc n) (nat_abs z)))
-        (λ m _. np n m ∙ neg_is_sub (f (suc n) m))
-        (λ _ m _ _. nn n m ∙ pos_is_sub _)
-        hb)
-        ha
+    mag-neg : (n : ℕ) → mag (neg_ℤ (pos n)) ≤ n
+    mag-neg zero = omega arith
+    mag-neg (suc n) = omega arith
 
--- MOD has the dividend's sign
-rem_by_sign : {a : ℕ} (d : ℤ) → a < 65536 → rem_z (signed a) d ≡ if (ltb a 32768) (sub_ℕ (magnitude a % nat_abs d) 0) (sub_ℕ 0 (magnitude a % nat_abs d))
-rem_by_sign d =
-    by_value (λ _ s y. rem_z y d ≡ if s (sub_ℕ (nat_abs y % nat_abs d) 0) (sub_ℕ 0 (nat_abs y % nat_abs d)))
-    (λ n _. pos_is_sub _)
-    (λ _ n _ _. neg_is_sub (suc n % nat_abs d))
+    mag-quot : (y z : ℤ) → mag (quot_z y z) ≤ mag y + 1
+    mag-quot (pos a) (pos d) = omega (arith, div-le_self a d)
+    mag-quot (pos a) (negsuc d) = omega (arith, mag-neg (a / suc d), div-le_self a (suc d))
+    mag-quot (negsuc a) (pos d) = omega (arith, mag-neg (suc a / d), div-le_self (suc a) d)
+    mag-quot (negsuc a) (negsuc d) = omega (arith, div-le_self (suc a) (suc d))
 
--- MUL, DIV and MOD, of two words whose sizes the code has
-module _ {a b s d : ℕ} (ha : a < 65536) (hb : b < 65536) (es : s ≡ magnitude a) (ed : d ≡ magnitude b) where
-  pub is_mul : {q : Reckoned} → q ≡ fitted (by_signs a b (s * d)) → q ≡ mul_w a b
-  is_mul e =
-      rw (op_is_by_signs (λ x y. x *ℤ y) (λ x y. x * y) (λ x y. refl) (λ x y. refl) (λ x y. refl) (λ x y. refl) ha hb, ← es, ← ed) e
+pub rem-fits : {y : ℤ} (z : ℤ) → SFits w16 y → SFits w32 (rem_z (held y) z)
+rem-fits {y} z f = record { sfits = omega (arith, ints, mag_rem (held y) z) }
 
-  module _ (nonzero : d ≡ 0 → ⊥) where
-    pub is_div : {q : Reckoned} → q ≡ fitted (by_signs a b (s / d)) → q ≡ div_w a b
-    is_div e =
-        rw (op_is_by_signs quot_z (λ x y. x / y) (λ x y. refl) (λ x y. refl) (λ x y. refl) (λ x y. refl) ha hb, ← es, ← ed, ne_eqb d 0 nonzero) e
+module _ {b : ℕ} (h : b < 65536) (nonzero : b ≡ 0 → ⊥) where
+  value_nonzero : signed b ≡ pos 0 → ⊥
+  unfolding signed
+  value_nonzero e = nonzero (signed_injective h (omega arith) e)
 
-    pub is_mod : {q : Reckoned} → a < 32768 → q ≡ fitted (sub_ℕ (s % d) 0) → q ≡ mod_w a b
-    is_mod h e = rw (rem_by_sign (signed b) ha, ← es, ← ed, ne_eqb d 0 nonzero, lt-ltb a 32768 h) e
+  pub divisor : {y : ℤ} → SFits w16 y → y ≡ signed b → 0 < of_z w32 y
+  divisor {y} f e = at y f (λ k. value_nonzero (sym e ∙ k))
+    where
+      at : (z : ℤ) → SFits w16 z → (z ≡ pos 0 → ⊥) → 0 < of_z w32 z
+      at (pos zero) f n = absurd (n refl)
+      at (pos (suc m)) f n = omega arith
+      at (negsuc m) f n = omega (arith, f.sfits)
 
-    pub is_mod_below : {q : Reckoned} → 32768 ≤ a → q ≡ fitted (sub_ℕ 0 (s % d)) → q ≡ mod_w a b
-    is_mod_below h e = rw (rem_by_sign (signed b) ha, ← es, ← ed, ne_eqb d 0 nonzero, le-ltb a 32768 h) e
+  nonzero_size : is_zero (signed b) ≡ false
+  nonzero_size = ne_eqb (nat_abs (signed b)) 0 (λ e. value_nonzero (omega (arith, ints)))
 
--- RANGE, of three words that the code has biased: its two bounds are tested one after the other
-in_turn : (s t : Bool) (x y : Reckoned) → if (not s && not t) x y ≡ if s y (if t y x)
-in_turn true t x y = refl
-in_turn false true x y = refl
-in_turn false false x y = refl
+  pub is_div : (a : ℕ) {q : Reckoned} → q ≡ fitted (quot_z (signed a) (signed b)) → q ≡ div_w a b
+  is_div a e = rw nonzero_size e
 
-module _ {i min max : ℕ} (hi : i < 65536) (hm : min < 65536) (hx : max < 65536) where
-  range_w_in_turn : range_w i min max ≡ if (ltb (biased i) (biased min)) (fault 3) (if (ltb (biased max) (biased i)) (fault 3) (word i))
+  pub is_mod : (a : ℕ) {q : Reckoned} → q ≡ fitted (rem_z (signed a) (signed b)) → q ≡ mod_w a b
+  is_mod a e = rw nonzero_size e
+
+pub div_of_zero : (a : ℕ) {b : ℕ} → b ≡ 0 → fault 1 ≡ div_w a b
+unfolding signed
+div_of_zero a e = rw e
+
+pub mod_of_zero : (a : ℕ) {b : ℕ} → b ≡ 0 → fault 1 ≡ mod_w a b
+unfolding signed
+mod_of_zero a e = rw e
+
+pub ruleset quotients = (values, is_div, div_of_zero, is_mod, mod_of_zero, divisor, quot-fits, rem-fits)
+
+-- The order of two numbers, as a test
+le_true : {y z : ℤ} → y ≤ℤ z → le_z y z ≡ true
+le_true h = grind (arith, ints)
+
+le_false : {y z : ℤ} → z <ℤ y → le_z y z ≡ false
+le_false h = grind (arith, ints)
+
+le_same : (a b c d : ℤ) → (a ≤ℤ b → c ≤ℤ d) → (b <ℤ a → d <ℤ c) → le_z a b ≡ le_z c d
+le_same a b c d f g = by_lt_z b a (λ l. le_false l ∙ sym (le_false (g l))) (λ l. le_true l ∙ sym (le_true (f l)))
+
+-- EQUAL
+pub is_equal : {a b q : ℕ} → a < 65536 → b < 65536 → q ≡ from_bool (eqb a b) → q ≡ equal_w a b
+is_equal {a} {b} ha hb e = e ∙ by (eqb a b) refl
+  where
+    by : (t : Bool) → eqb a b ≡ t → from_bool t ≡ equal_w a b
+    by true k = let z : signed a ≡ signed b = ap signed (eqb-true a b k) in rw (z, le_true (≤ℤ_refl (signed b)))
+    by false k =
+        by_lt_z (signed a) (signed b)
+        (λ l. let below : signed a ≤ℤ signed b = omega (arith, ints) in rw (le_true below, le_false l))
+        (λ g. by_lt_z (signed b) (signed a)
+        (λ l. rw (le_false l))
+        (λ h. absurd (eqb-false a b k (signed_injective ha hb (omega (arith, ints))))))
+
+-- RANGE
+module _ {x y : ℤ} (i min max : ℕ) (fx : SFits w16 x) (fy : SFits w16 y) (ex : x ≡ signed i) (ey : y ≡ signed min) where
+  pub below_range : held x <ℤ held y → fault 3 ≡ range_w i min max
   unfolding range_w
-  range_w_in_turn =
-      rw (le_z_is_not_lt_z (signed min) (signed i), le_z_is_not_lt_z (signed i) (signed max), signed_lt_signed hi hm, signed_lt_signed hx hi)
-      (in_turn (ltb (biased i) (biased min)) (ltb (biased max) (biased i)) (word i) (fault 3))
+  below_range h = let low : x <ℤ y = omega (arith, ints) in rw (← ex, ← ey, le_false low)
 
-  module _ {x low : ℕ} (ex : x ≡ biased i) (el : low ≡ biased min) where
-    pub below-range : x < low → fault 3 ≡ range_w i min max
-    below-range h = rw (range_w_in_turn, ← ex, ← el, lt-ltb x low h)
+  module _ {z : ℤ} (fz : SFits w16 z) (ez : z ≡ signed max) (g : held y ≤ℤ held x) where
+    low_is : le_z y x ≡ true
+    low_is = let low : y ≤ℤ x = omega (arith, ints) in le_true low
 
-    module _ {high : ℕ} (eh : high ≡ biased max) (g : low ≤ x) where
-      pub above-range : high < x → fault 3 ≡ range_w i min max
-      above-range h = rw (range_w_in_turn, ← ex, ← el, ← eh, le-ltb x low g, lt-ltb high x h)
+    pub above_range : held z <ℤ held x → fault 3 ≡ range_w i min max
+    unfolding range_w
+    above_range h = let high : z <ℤ x = omega (arith, ints) in rw (← ex, ← ey, ← ez, low_is, le_false high)
 
-      pub in_range : x ≤ high → word i ≡ range_w i min max
-      in_range h = rw (range_w_in_turn, ← ex, ← el, ← eh, le-ltb x low g, le-ltb high x h)
+    pub in_range : held x ≤ℤ held z → word i ≡ range_w i min max
+    unfolding range_w
+    in_range h = let high : x ≤ℤ z = omega (arith, ints) in rw (← ex, ← ey, ← ez, low_is, le_true high)
 
--- INDEX reckons an address where RANGE gives a word
-abbrev placed : ℤ → Reckoned
-placed z = if (within (pos 0) z (pos 4095)) (word (word_of z)) (fault 2)
+pub ruleset ranges = (below_range, above_range, in_range)
 
-abbrev after : Reckoned → Reckoned → Reckoned
-after (word w) q = q
-after (fault n) q = fault 3
+-- A number that the code takes as a place among n: from 0 to n - 1
+module _ {z : ℤ} where
+  is_place : {k : ℕ} → FitsUnsignedBits 16 z → k ≡ nat_abs z → z ≡ pos k
+  is_place f e = by z f ∙ ap pos (sym e)
+    where
+      by : (y : ℤ) → FitsUnsignedBits 16 y → y ≡ pos (nat_abs y)
+      by (pos m) g = refl
+      by (negsuc m) g = absurd g
 
-if_is_after : (t : Bool) (x : ℕ) (q : Reckoned) → if t q (fault 3) ≡ after (if t (word x) (fault 3)) q
-if_is_after true x q = refl
-if_is_after false x q = refl
+  module _ (n : ℕ) where
+    among : {k : ℕ} → z ≡ pos k → k < n → within (pos 0) z (pos n -ℤ pos 1) ≡ true
+    among e h =
+        let low : pos 0 ≤ℤ z = omega (arith, ints) in
+        let high : z ≤ℤ (pos n -ℤ pos 1) = omega (arith, ints) in
+        rw (le_true low, le_true high)
 
-index_w_is_after : (address i min max len : ℕ) → index_w address i min max len ≡ after (range_w i min max) (placed (indexed address i min len))
-unfolding index_w range_w
-index_w_is_after address i min max len = if_is_after (within (signed min) (signed i) (signed max)) i _
+    past : {k : ℕ} → z ≡ pos k → n ≤ k → within (pos 0) z (pos n -ℤ pos 1) ≡ false
+    past e h =
+        let low : pos 0 ≤ℤ z = omega (arith, ints) in
+        let high : (pos n -ℤ pos 1) <ℤ z = omega (arith, ints) in
+        rw (le_true low, le_false high)
 
-pub index_outside : {r : Answer} {n : ℕ} (address i min max len : ℕ) → said r ≡ range_w i min max → r ≡ Fault n → fault 3 ≡ index_w address i min max len
-index_outside address i min max len told e = rw (index_w_is_after address i min max len, ← told, e)
-
--- a difference as an address
-module _ (n : ℕ) where
-  placed_below : n < 32768 → fault 2 ≡ placed (sub_ℕ n 32768)
-  placed_below h = rw (sub_is_negsuc n 32768 (32767 - n) (omega arith))
-
-  placed-above : 36863 < n → fault 2 ≡ placed (sub_ℕ n 32768)
-  placed-above h = rw (sub_is_pos n 32768 (n - 32768) (omega arith), leb-zero (n - 32768), lt-leb (n - 32768) 4095 (omega arith))
-
-  placed_inside : 32768 ≤ n → n ≤ 36863 → word (n - 32768) ≡ placed (sub_ℕ n 32768)
-  placed_inside g h = rw (sub_is_pos n 32768 (n - 32768) (omega arith), leb-zero (n - 32768), le-leb (n - 32768) 4095 (omega arith))
-
--- the steps times the length, and the sum with an address, are not too large for the code
-product_below : (x y : ℕ) → x ≤ 65535 → y ≤ 65535 → x * y < 4294967296
-product_below x y h k = omega (arith, mul-le-mul h k)
-
-module _ {x z len : ℕ} (low : ℕ) (ez : z ≡ x - low) (hx : x < 65536) (hl : len < 65536) where
-  pub product_fits : Fits w64 (z * len)
-  product_fits = omega (arith, product_below z len (omega arith) (omega arith))
-
-  pub sum_fits : {a y : ℕ} → y ≡ a → a < 65536 → Fits w64 (y + z * len)
-  sum_fits e h = omega (arith, product_below z len (omega arith) (omega arith))
-
--- a word isn't the first of two where the first is a fault
-word_isnt_first : (t : Bool) {w : ℕ} (q : Reckoned) → word w ≡ if t (fault 3) q → t ≡ false
-word_isnt_first true q e = cc
-word_isnt_first false q e = refl
-
-module _
-    {r : Answer}
-    {w x low i min max : ℕ}
-    (ex : x ≡ biased i)
-    (el : low ≡ biased min)
-    (told : said r ≡ range_w i min max)
-    (inside : r ≡ Word w)
-    (hi : i < 65536)
-    (hm : min < 65536)
-    (hx : max < 65536)
+apart : (z : ℤ) (n : ℕ) → (FitsUnsignedBits 16 z → ⊥) → n ≤ 65536 → within (pos 0) z (pos n -ℤ pos 1) ≡ false
+apart z n f h = by z f
   where
-    pub low_le : low ≤ x
-    low_le = ltb-false x low (word_isnt_first (ltb x low) _ (rw (inside, range_w_in_turn hi hm hx, ← ex, ← el) at told))
+    by : (y : ℤ) → (FitsUnsignedBits 16 y → ⊥) → within (pos 0) y (pos n -ℤ pos 1) ≡ false
+    by (pos k) g = past {z = pos k} n {k = k} refl (below? k 65536 (λ l. absurd (g l)) (λ l. omega arith))
+    by (negsuc k) g = refl
 
-    -- the code's sum y + z * len is the new address plus 32768
-    module _ {address a y z : ℕ} (ha : address < 65536) (ea : a ≡ biased address) (ey : y ≡ a) (ez : z ≡ x - low) (len : ℕ) where
-      index_w_is_placed : index_w address i min max len ≡ placed (sub_ℕ (y + z * len) 32768)
-      index_w_is_placed =
-          rw (index_w_is_after address i min max len, ← told, inside, signed_is_sub ha, signed_minus_signed hi hm, ← ea, ← ex, ← el, ← ey)
-          (rw (sub_is_pos x low (x - low) (omega (arith, low_le)), ← ez, pos_is_sub (z * len)) (ap placed (sub_plus_sub y 32768 (z * len) 0)))
-
-      pub index_below : y + z * len < 32768 → fault 2 ≡ index_w address i min max len
-      index_below h = rw index_w_is_placed (placed_below _ h)
-
-      pub index-above : 36863 < y + z * len → fault 2 ≡ index_w address i min max len
-      index-above h = rw index_w_is_placed (placed-above _ h)
-
-      pub index_inside : 32768 ≤ y + z * len → y + z * len ≤ 36863 → word (y + z * len - 32768) ≡ index_w address i min max len
-      index_inside g h = rw index_w_is_placed (placed_inside _ g h)
-
--- CASEJUMP tests the first word, then how far i stands behind it
-module _ {i min x low : ℕ} (hi : i < 65536) (hm : min < 65536) (ex : x ≡ biased i) (el : low ≡ biased min) where
-  last_case : (m : ℕ) → le_z (signed i) (signed min +ℤ pos m -ℤ pos 1) ≡ not (ltb (low + m) (x + 1))
-  last_case m =
-      rw (le_z_is_not_lt_z (signed i) (signed min +ℤ pos m -ℤ pos 1), signed_is_sub hi, signed_is_sub hm, pos_is_sub m, ← ex, ← el)
-      (rw (sub_plus_sub low 32768 m 0, sub_plus_sub (low + m) (32768 + 0) 0 1, sub_is_sub x 32768 (x + 1) 32769 (omega arith), sub_is_sub (low + m + 0) (32768 + 0 + 1) (low + m) 32769 (omega arith))
-      (ap not (sub_lt_sub (low + m) (x + 1) 32769)))
-
-  case_w_in_turn : (m : ℕ) → case_w i min m ≡ if (ltb x low) (fault 3) (if (ltb (low + m) (x + 1)) (fault 3) (word (nat_abs (sub_ℕ x low))))
+-- CASEJUMP
+module _ {x y : ℤ} (i min m : ℕ) (fx : SFits w16 x) (fy : SFits w16 y) (ex : x ≡ signed i) (ey : y ≡ signed min) where
+  case_w_by_place : case_w i min m ≡ if (within (pos 0) (held (held x -ℤ held y)) (pos m -ℤ pos 1)) (word (nat_abs (held (held x -ℤ held y)))) (fault 3)
   unfolding case_w
-  case_w_in_turn m =
-      rw (le_z_is_not_lt_z (signed min) (signed i), signed_lt_signed hi hm, last_case m, signed_minus_signed hi hm, ← ex, ← el)
-      (in_turn (ltb x low) (ltb (low + m) (x + 1)) (word (nat_abs (sub_ℕ x low))) (fault 3))
+  case_w_by_place =
+      let z : held (held x -ℤ held y) ≡ x -ℤ y = omega (arith, ints) in
+      rw (z, ← ex, ← ey, le_same y x (pos 0) (x -ℤ y) (λ h. omega (arith, ints)) (λ h. omega (arith, ints)), le_same x (y +ℤ pos m -ℤ pos 1) (x -ℤ y) (pos m -ℤ pos 1) (λ h. omega (arith, ints)) (λ h. omega (arith, ints)))
 
-  pub before_cases : (m : ℕ) → x < low → fault 3 ≡ case_w i min m
-  before_cases m h = rw (case_w_in_turn m, lt-ltb x low h)
+  pub among_cases : {k : ℕ} → FitsUnsignedBits 16 (held (held x -ℤ held y)) → k ≡ nat_abs (held (held x -ℤ held y)) → k < m → word k ≡ case_w i min m
+  among_cases f e h = let z = is_place f e in rw (case_w_by_place, among m z h, e)
 
-  module _ (m : ℕ) (g : low ≤ x) where
-    pub past_cases : m ≤ x - low → fault 3 ≡ case_w i min m
-    past_cases h = rw (case_w_in_turn m, le-ltb x low g, lt-ltb (low + m) (x + 1) (omega arith))
+  pub past_cases : {k : ℕ} → FitsUnsignedBits 16 (held (held x -ℤ held y)) → k ≡ nat_abs (held (held x -ℤ held y)) → m ≤ k → fault 3 ≡ case_w i min m
+  past_cases f e h = let z = is_place f e in rw (case_w_by_place, past m z h)
 
-    pub among_cases : x - low < m → word (x - low) ≡ case_w i min m
-    among_cases h = rw (case_w_in_turn m, le-ltb x low g, le-ltb (low + m) (x + 1) (omega arith))
+  pub apart_from_cases : m < 65536 → (FitsUnsignedBits 16 (held (held x -ℤ held y)) → ⊥) → fault 3 ≡ case_w i min m
+  apart_from_cases h f = rw (case_w_by_place, apart _ m f (omega arith))
+
+pub ruleset cases = (among_cases, past_cases, apart_from_cases)
+
+-- a place among m cases is below m: for the engine's CASEJUMP
+pub case_below : (i min m k : ℕ) → word k ≡ case_w i min m → k < m
+unfolding case_w
+case_below i min m k = by (le_z (signed min) (signed i)) (le_z (signed i) (signed min +ℤ pos m -ℤ pos 1)) refl refl
+  where
+    by : (t u : Bool) → le_z (signed min) (signed i) ≡ t → le_z (signed i) (signed min +ℤ pos m -ℤ pos 1) ≡ u → word k ≡ if (t && u) (word (nat_abs (signed i -ℤ signed min))) (fault 3) → k < m
+    by true true e f g = let z : k ≡ nat_abs (signed i -ℤ signed min) = cc in omega (arith, ints)
+    by true false e f g = cc
+    by false u e f g = cc
+
+-- INDEX: where RANGE gives a word, i is within its bounds
+pub index_outside : {r : Result ℕ Fault} {f : Fault} (address i min max len : ℕ) → said r ≡ range_w i min max → r ≡ Err f → fault (number_of f) ≡ index_w address i min max len
+unfolding range_w index_w
+index_outside {f = f} address i min max len told e = by (within (signed min) (signed i) (signed max)) (rw e at told)
+  where
+    by : (t : Bool) → fault (number_of f) ≡ if t (word i) (fault 3) → fault (number_of f) ≡ if t (if (within (pos 0) (indexed address i min len) (pos 4095)) (word (word_of (indexed address i min len))) (fault 2)) (fault 3)
+    by true k = cc
+    by false k = k
+
+abbrev held64 : ℤ → ℤ
+held64 z = to_z w64 (of_z w64 z)
+
+module _ {x y a b s k : ℤ} {len : ℕ} (es : s ≡ held (held x -ℤ held y)) (eb : b ≡ held a) (ek : k ≡ pos len) (fx : SFits w16 x) (fy : SFits w16 y) (fa : SFits w16 a) (h : len < 65536) where
+  steps_are : held64 s ≡ x -ℤ y
+  steps_are = omega (arith, ints)
+
+  len_is : held64 k ≡ pos len
+  len_is = omega (arith, ints)
+
+  small : nat_abs (held64 s *ℤ held64 k) ≤ 4294836225
+  small =
+      let p : nat_abs (held64 s) ≤ 65535 = omega (arith, ints) in
+      let q : nat_abs (held64 k) ≤ 65535 = omega (arith, ints) in
+      omega (arith, unsigned_abs-mul (held64 s) (held64 k), mul-le-mul p q)
+
+  pub product_fits : SFits w64 (held64 s *ℤ held64 k)
+  product_fits = fits_signed_from_abs w64 _ (omega (arith, small))
+
+  pub sum_fits : SFits w64 (held64 b +ℤ held64 (held64 s *ℤ held64 k))
+  sum_fits = omega (arith, ints, small)
+
+  pub sum_is : (address i min : ℕ) → a ≡ signed address → x ≡ signed i → y ≡ signed min → held64 (held64 b +ℤ held64 (held64 s *ℤ held64 k)) ≡ indexed address i min len
+  sum_is address i min ea ex ey =
+      let p : held64 s *ℤ held64 k ≡ (x -ℤ y) *ℤ pos len = rw (steps_are, len_is) in
+      rw (← ea, ← ex, ← ey) (omega (arith, ints, small, p))
+
+pub ruleset moves = (sum_is, sum_fits, product_fits)
+
+module _ {w : ℕ} {z : ℤ} (address i min max len : ℕ) (told : word w ≡ range_w i min max) (ez : z ≡ indexed address i min len) (fz : mag z < 9223372036854775808) where
+  index_w_by_place : index_w address i min max len ≡ if (within (pos 0) (held64 z) (pos 4096 -ℤ pos 1)) (word (word_of (held64 z))) (fault 2)
+  unfolding range_w index_w
+  index_w_by_place =
+      let e : held64 z ≡ z = to_z-of_z w64 z (record { sfits = fz }) in
+      rw (by _ told, e, ez)
+    where
+      by : (t : Bool) → word w ≡ if t (word i) (fault 3) → t ≡ true
+      by true e = refl
+      by false e = cc
+
+  pub index_inside : {n : ℕ} → FitsUnsignedBits 16 (held64 z) → n ≡ nat_abs (held64 z) → n < 4096 → word n ≡ index_w address i min max len
+  index_inside f e l = let p = is_place f e in rw (index_w_by_place, among 4096 p l, p)
+
+  pub index-above : {n : ℕ} → FitsUnsignedBits 16 (held64 z) → n ≡ nat_abs (held64 z) → 4096 ≤ n → fault 2 ≡ index_w address i min max len
+  index-above f e l = let p = is_place f e in rw (index_w_by_place, past 4096 p l)
+
+  pub index_apart : (FitsUnsignedBits 16 (held64 z) → ⊥) → fault 2 ≡ index_w address i min max len
+  index_apart f = rw (index_w_by_place, apart _ 4096 f (omega arith))
+
+pub ruleset indexes = (index_outside, index_inside, index-above, index_apart)

@@ -4,8 +4,9 @@ use Rattle.std.specs.Prelude.{Bool, true, false, ◌&&◌, ℕ, ◌-◌, ltb, eq
 use Rattle.std.specs.Int.Bits.{bit_and, bit_or}
 use Rattle.std.proofs.Math.IntN.{sub_ℕ}
 use Rattle.std.specs.Int.Signed.{lt_z, le_z, quot_z, rem_z}
-use Rattle.word.specs.declared.Answer.{Answer}
-use Rattle.word.specs.declared.Answer.TheVariants.{Word, Fault}
+use Rattle.std.specs.Prelude.{Result, Ok, Err}
+use Rattle.word.specs.declared.Fault.{Fault}
+use Rattle.word.specs.declared.Fault.TheVariants.{Terminated, Overflow, Pointer, Range, Variant, HeapLimit, StackLimit, Code, Gate, Limit}
 use Rattle.notation.specs.If.{if}
 
 -- "A word has 16 bits, signed unless said otherwise": the whole number of a pattern, and the pattern of a whole number
@@ -29,10 +30,23 @@ pub data Reckoned : Type 0 where
   word : ℕ → Reckoned
   fault : ℕ → Reckoned
 
+-- document 01's number of a fault
+abbrev pub number_of : Fault → ℕ
+number_of Terminated = 0
+number_of Overflow = 1
+number_of Pointer = 2
+number_of Range = 3
+number_of Variant = 4
+number_of HeapLimit = 5
+number_of StackLimit = 6
+number_of Code = 7
+number_of Gate = 8
+number_of Limit = 9
+
 -- the cases of the code's answer
-abbrev pub said : Answer → Reckoned
-said (Word w) = word w
-said (Fault n) = fault n
+abbrev pub said : Result ℕ Fault → Reckoned
+said (Ok w) = word w
+said (Err f) = fault (number_of f)
 
 -- "fault 1 where the result doesn't fit a word"
 unfoldable pub fitted : ℤ → Reckoned

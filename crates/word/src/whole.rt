@@ -1,127 +1,104 @@
-// Whole numbers as differences of naturals: the way to reckon with signed words on unsigned numbers.
-ghost use Rattle.std.specs.Prelude.{◌≡◌, ◌+◌, ◌≤◌, ◌<◌};
-ghost use Rattle.std.proofs.Math.IntN.{sub_ℕ};
-ghost use Rattle.word.specs.Word.{said, fitted, not_w, add_w, sub_w, neg_w, mul_w, div_w, mod_w, less_w, equal_w};
-ghost use Rattle.word.specs.Whole.{biased, magnitude, by_signs};
+// Signed words: the code of each operation on one or two of them.
+ghost use Rattle.std.specs.Prelude.{◌≡◌, FitsSigned};
+ghost use Rattle.std.specs.Int.{w16};
+ghost use Rattle.word.specs.Word.{signed, said, indexed, fitted, not_w, add_w, sub_w, neg_w, mul_w, div_w, mod_w, less_w, equal_w};
 
-use crate::{Answer, fault};
+use crate::Fault;
 
-pub(crate) fn wide(x: u32) -> u64
-    ensures { result ≡ x }
+// The whole number that a word stands for.
+#[tactic(auto, using(crate::proofs::Words::value_is))]
+pub(crate) fn value(a: u16) -> i32
+    ensures { (result ≡ signed a) × FitsSigned w16 result }
 {
-    x as u64
+    i32::from(a.cast_signed())
 }
 
-// The value of a word, plus 32768: a number from 0 to 65535 in the order of the values.
-pub(crate) fn bias(x: u16) -> u32
-    ensures { (result ≡ biased x) × (result < 65536) }
+// The word of a whole number, or fault 1 where that doesn't fit.
+#[tactic(auto, using(crate::proofs::Words::fits))]
+pub(crate) fn fitted(z: i32) -> Result<u16, Fault>
+    ensures { said result ≡ fitted z }
 {
-    if x < 32768 {
-        (x as u32) + 32768
-    } else {
-        (x as u32) - 32768
-    }
-}
-
-// The size of a word's value, with no sign.
-pub(crate) fn size(x: u16) -> u32
-    ensures { (result ≡ magnitude x) × (result ≤ 32768) }
-{
-    if x < 32768 {
-        x as u32
-    } else {
-        65536 - (x as u32)
+    match i16::try_from(z) {
+        Ok(w) => Ok(w.cast_unsigned()),
+        Err(_) => Err(Fault::Overflow),
     }
 }
 
-// The word of the whole number s - k, or fault 1 where that doesn't fit.
-pub(crate) fn fit(s: u32, k: u32) -> Answer
-    requires { (s < 2147450880) × (k < 2147450880) }
-    ensures { said result ≡ fitted (sub_ℕ s k) }
-{
-    if s + 32768 < k {
-        return Answer::Fault(fault::OVERFLOW);
-    }
-    if k + 32768 <= s {
-        return Answer::Fault(fault::OVERFLOW);
-    }
-    if s < k {
-        return Answer::Word((s + 65536 - k) as u16);
-    }
-    Answer::Word((s - k) as u16)
-}
-
-// q with the sign that a product or a quotient of a and b has.
-pub(crate) fn by_signs(a: u16, b: u16, q: u32) -> Answer
-    requires { q < 2147450880 }
-    ensures { said result ≡ fitted (by_signs a b q) }
-{
-    if a < 32768 {
-        if b < 32768 { fit(q, 0) } else { fit(0, q) }
-    } else {
-        if b < 32768 { fit(0, q) } else { fit(q, 0) }
-    }
-}
-
+#[tactic(auto, using(crate::proofs::Words::tests))]
 pub(crate) fn not(a: u16) -> u16
     ensures { result ≡ not_w a }
 {
-    if a == 0 { 1 } else { 0 }
+    u16::from(a == 0)
 }
 
-pub(crate) fn neg(a: u16) -> Answer
+#[tactic(auto, using(crate::proofs::Words::values))]
+pub(crate) fn neg(a: u16) -> Result<u16, Fault>
     ensures { said result ≡ neg_w a }
 {
-    fit(32768, bias(a))
+    fitted(-value(a))
 }
 
-pub(crate) fn add(a: u16, b: u16) -> Answer
+// A line each: one function that is given the operator would be no shorter.
+#[tactic(auto, using(crate::proofs::Words::values))]
+pub(crate) fn add(a: u16, b: u16) -> Result<u16, Fault>
     ensures { said result ≡ add_w a b }
 {
-    fit(bias(a) + bias(b), 65536)
+    fitted(value(a) + value(b))
 }
 
-pub(crate) fn sub(a: u16, b: u16) -> Answer
+#[tactic(auto, using(crate::proofs::Words::values))]
+pub(crate) fn sub(a: u16, b: u16) -> Result<u16, Fault>
     ensures { said result ≡ sub_w a b }
 {
-    fit(bias(a), bias(b))
+    fitted(value(a) - value(b))
 }
 
-pub(crate) fn mul(a: u16, b: u16) -> Answer
+#[tactic(auto, using(crate::proofs::Words::values))]
+pub(crate) fn mul(a: u16, b: u16) -> Result<u16, Fault>
     ensures { said result ≡ mul_w a b }
 {
-    by_signs(a, b, size(a) * size(b))
+    fitted(value(a) * value(b))
 }
 
-pub(crate) fn div(a: u16, b: u16) -> Answer
+// DIV and MOD share the test alone.
+#[tactic(auto, using(crate::proofs::Words::quotients))]
+pub(crate) fn div(a: u16, b: u16) -> Result<u16, Fault>
     ensures { said result ≡ div_w a b }
 {
-    let d = size(b);
-    if d == 0 {
-        return Answer::Fault(fault::OVERFLOW);
+    if b == 0 {
+        return Err(Fault::Overflow);
     }
-    by_signs(a, b, size(a) / d)
+    fitted(value(a) / value(b))
 }
 
-pub(crate) fn modulo(a: u16, b: u16) -> Answer
+#[tactic(auto, using(crate::proofs::Words::quotients))]
+pub(crate) fn modulo(a: u16, b: u16) -> Result<u16, Fault>
     ensures { said result ≡ mod_w a b }
 {
-    let d = size(b);
-    if d == 0 {
-        return Answer::Fault(fault::OVERFLOW);
+    if b == 0 {
+        return Err(Fault::Overflow);
     }
-    let m = size(a) % d;
-    if a < 32768 { fit(m, 0) } else { fit(0, m) }
+    fitted(value(a) % value(b))
 }
 
+#[tactic(auto, using(crate::proofs::Words::values))]
 pub(crate) fn less(a: u16, b: u16) -> u16
     ensures { result ≡ less_w a b }
 {
-    if bias(a) < bias(b) { 1 } else { 0 }
+    u16::from(value(a) < value(b))
 }
 
+#[tactic(auto, using(crate::proofs::Words::is_equal))]
 pub(crate) fn equal(a: u16, b: u16) -> u16
     ensures { result ≡ equal_w a b }
 {
-    if a == b { 1 } else { 0 }
+    u16::from(a == b)
+}
+
+// The address moved by i - min steps of len words, as a whole number; 64 bits hold any such product.
+pub(crate) fn moved(address: u16, i: u16, min: u16, len: u16) -> i64
+    ensures { result ≡ indexed address i min len }
+{
+    let steps = value(i) - value(min);
+    i64::from(value(address)) + i64::from(steps) * i64::from(len)
 }

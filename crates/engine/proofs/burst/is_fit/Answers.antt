@@ -2,4 +2,4 @@
 use Rattle.engine.proofs.burst.is_fit.Goals as goal
 
 pub returns : goal.returns
-returns c = λ h s q e f. rw (c.wide-at.ensures.0, c.job_is_ok-job.ensures, e, f)
+returns c = λ h s q e f. rw (c.from.ensures, c.job_is_ok.ensures, e, f)

@@ -4,7 +4,7 @@ use Rattle.engine.proofs.burst.job_is_ok.Goals as goal
 
 pub returns-then-r : goal.returns-then-r
 unfolding job_ok
-returns-then-r c = rw (c.if-r.true, c.wide.ensures.0, c.wide-then-r.ensures.0, c.wide-back.ensures.0)
+returns-then-r c = rw (c.if-r.true, c.from.ensures, c.from-then-r.ensures, c.from-then-r-2.ensures)
 
 pub returns-else-r : goal.returns-else-r
 unfolding job_ok

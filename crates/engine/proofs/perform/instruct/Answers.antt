@@ -1,17 +1,16 @@
 -- The tests are the definition's in its order, and where `perform` faults the stores are as before, so that `settle` settles it on them.
-use mathlib.Core.Path.{◌∙◌}
-use Rattle.notation.proofs.Test.{part}
+use mathlib.Core.Path.{sym, ◌∙◌}
+use native.Mathlib.Omega.{arith}
 use Rattle.engine.proofs.Steps.{settles, past-code, stopped, performed}
 use Rattle.engine.proofs.perform.instruct.Goals as goal
 
-pub returns-then-code-at : goal.returns-then-code-at
-returns-then-code-at c = c.settle.ensures _ _ _ ∙ past-code _ c.if-code-at.true
+pub returns-then-v-at : goal.returns-then-v-at
+returns-then-v-at c = c.settle.ensures _ ∙ past-code _ (omega arith)
 
-pub end_job-requires : goal.end_job-requires
-end_job-requires c = let pre = c.requires in (pre.0.ready.low, pre.0.saved (part _ c.if-stops.true (λ f. rw f)), pre.2)
-
-pub returns-then-stops : goal.returns-then-stops
-returns-then-stops c = c.end_job.ensures _ _ _ ∙ stopped _ c.if-code-at.false c.if-stops.true
+pub returns-then-takes_stop : goal.returns-then-takes_stop
+returns-then-takes_stop c =
+    let taken = rw c.from-at.ensures at (sym c.takes_stop.ensures ∙ c.if-takes_stop.true) in
+    c.went.ensures _ _ ∙ c.end_job.ensures c.args.common.now ∙ stopped _ (omega arith) taken
 
 pub returns : goal.returns
-returns c = let a = c.args in c.settle-2.ensures a.code.now a.holding c.perform-out.new.common ∙ settles _ _ c.perform-out.result _ _ c.perform-out.ensures ∙ performed _ c.if-code-at.false c.if-stops.false
+returns c = c.settle-2.ensures c.perform-out.new.common ∙ settles _ _ c.perform-out.result _ _ c.perform-out.ensures ∙ rw c.from-at.ensures (performed _ (omega arith) (rw c.from-at.ensures at (sym c.takes_stop.ensures ∙ c.if-takes_stop.false)))

@@ -1,14 +1,16 @@
+-- The image by itself, then the room; where both pass, the code is copied.
 use Rattle.image.proofs.Laws as L
 use Rattle.image.proofs.reader.read.Goals as goal
 
--- src/reader.rt:190:9
-pub returns-in_default : goal.returns-in_default
-returns-in_default c = L.read_refuses c.args.image.now c.examine-examined.result c.examine-examined.ensures c.args.code.now _ c.in_default.is
+pub returns-in_err-header : goal.returns-in_err-header
+returns-in_err-header c = L.read_refuses c.args.image.now c.examine.result c.examine.ensures c.args.code.now _ _ c.in_err-header.was c.from_residual.ensures.1
 
--- src/reader.rt:195:9
-pub returns-in_default-room : goal.returns-in_default-room
-returns-in_default-room c = rw c.accepted.ensures (L.read_short c.args.image.now c.examine-examined.result c.examine-examined.ensures c.args.code.now _ c.in-Accepted.is c.check_room-room.result c.check_room-room.ensures _ c.in_default-room.is)
+pub returns-in_err-check_room : goal.returns-in_err-check_room
+returns-in_err-check_room c =
+    let room = rw c.from.ensures at c.check_room.ensures in
+    L.read_short c.args.image.now c.examine.result c.examine.ensures c.args.code.now _ c.in_ok-header.was _ room _ _ c.in_err-check_room.was c.from_residual-in_err-check_room.ensures.1
 
--- src/reader.rt:185:1
 pub returns : goal.returns
-returns c = rw c.copy_code.ensures (L.read_taken c.args.image.now c.examine-examined.result c.examine-examined.ensures c.args.code.now _ c.in-Accepted.is c.check_room-room.result c.check_room-room.ensures c.in-Passed.is)
+returns c =
+    let room = rw c.from.ensures at c.check_room.ensures in
+    rw c.copy_code.ensures (L.read_taken c.args.image.now c.examine.result c.examine.ensures c.args.code.now _ c.in_ok-header.was _ room c.in_ok-check_room.was)

@@ -1,25 +1,27 @@
-use mathlib.Core.Path.{refl, ◌∙◌}
-use Rattle.kernel.proofs.Laws.{same_process}
-use Rattle.kernel.proofs.Door.{fits, not_able, told_of, trap_goes, trap_unfit}
+use borrow.Author.Rules.{rules}
+use mathlib.Core.Logic.{inl, inr}
+use Rattle.kernel.specs.Did.{able}
+use Rattle.kernel.proofs.Records.{unfit, unfit_stores}
+use Rattle.kernel.proofs.Door.{was_answered, decides_call, decides_unfit}
 use Rattle.kernel.proofs.call.decide.Goals as goal
 
-pub call_of-requires : goal.call_of-requires
-call_of-requires c =
-    let f = fits c.args.who c.args.common.now c.args.private.now _ c.is_able-able.ensures c.if-fit.true in
-    (f.able, f.common, f.private)
+pub returns-in_default : goal.returns-in_default
+returns-in_default c =
+    decides_unfit _ _ _ _ _ _ _ c.unfit.ensures (unfit c.args.common.now c.args.private.now (able c.args.who) (inl (unfit_stores c.args.common.now c.args.private.now (inl c.in_default.ensures.cases))))
 
-pub returns-then-fit : goal.returns-then-fit
-returns-then-fit c =
+pub returns-in_default-as_mut_array : goal.returns-in_default-as_mut_array
+returns-in_default-as_mut_array c =
+    let common = c.in-Some.ensures.cases in
+    rw common.same (decides_unfit _ _ _ _ _ _ _ c.unfit-in_default-as_mut_array.ensures (unfit c.args.common.now c.args.private.now (able c.args.who) (inl (unfit_stores c.args.common.now c.args.private.now (inr (common.long, c.in_default-as_mut_array.ensures.cases))))))
+
+pub returns-in_default-fit : goal.returns-in_default-fit
+returns-in_default-fit c =
+    rw (c.in-Some.ensures.cases.same, c.in-Some-as_mut_array.ensures.cases.same) (decides_unfit _ _ _ _ _ _ _ c.unfit-in_default-fit.ensures (unfit c.args.common.now c.args.private.now (able c.args.who) (inr c.in_default-fit.ensures)))
+
+pub returns : goal.returns
+returns c =
     let a = c.args in
-    let able = c.is_able-able.ensures in
-    let fit = c.if-fit.true in
-    let f = fits a.who a.common.now a.private.now _ able fit in (
-      λ m e p g.
-          c.call_of.ensures m (told_of m a.who a.processes c.well_formed.1.0.1.0.1 f.able e p) p g
-          ∙ trap_goes a.who _ _ _ able m e _ fit,
-      not_able a.who a.common.now a.private.now _ able fit,
-    )
-
-pub returns-else-fit : goal.returns-else-fit
-returns-else-fit c =
-    (λ m e p g. rw (c.unfit.ensures, e, same_process m) (trap_unfit c.args.who _ _ _ c.is_able-able.ensures m e _ c.if-fit.false), λ f. (c.unfit.ensures, refl, refl))
+    let common = c.in-Some.ensures.cases in
+    let private = c.in-Some-as_mut_array.ensures.cases in
+    let fit = c.in-Some-fit.ensures in
+    rw (was_answered a.who c.call_of.result c.unwrap_or_else.result (λ f p. search rules) c.unwrap_or_else.ensures) (decides_call a.who a.processes a.gates a.k _ a.common.now a.private.now common.long private.long fit.1 c.well_formed.1.0.1.0.1 (rw (common.same, private.same, fit.0) at c.call_of.ensures))

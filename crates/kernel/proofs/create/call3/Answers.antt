@@ -1,88 +1,38 @@
+use mathlib.Core.Path.{◌∙◌}
 use Prim.Native.Nat.{◌+◌}
-use native.Mathlib.Omega.{arith}
-use borrow.Author.Tests.{le-leb, not-false, not-true}
-use Rattle.kernel.proofs.Laws.{has_words_lem, same_process, words_there}
-use Rattle.kernel.proofs.Part.{by_0, call3-made, call3_tested, few_words, three}
-use Rattle.machine.specs.Call.{passed, call3}
+use lib.ListN.{get_or}
+use Rattle.word.specs.declared.Fault.TheVariants.{Code, Limit, Range}
+use Rattle.kernel.specs.declared.answer.Act.TheVariants.{Create}
+use Rattle.machine.specs.Call.{call3}
+use Rattle.kernel.proofs.Laws.{goes_at, stops_at, too_few}
+use Rattle.kernel.proofs.Part.{call3-made, call3_code, call3_limit, call3_range, call3_rest}
 use Rattle.kernel.proofs.create.call3.Goals as goal
 
-pub returns-then-not-words : goal.returns-then-not-words
+pub returns-in_err-t : goal.returns-in_err-t
 unfolding call3
-returns-then-not-words c =
-    λ m t k. rw (c.stops.ensures, t.caller, same_process m, has_words_lem m _ 3 _ _ t.caller c.has_words-words.ensures (not-true _ c.if-not-words.true-raw))
+returns-in_err-t c =
+    λ m t k. too_few t 3 _ c.from_residual.result c.from_residual.ensures.1 c.in_err-t.ensures
 
-pub stack_word-t-requires : goal.stack_word-t-requires
-stack_word-t-requires c =
-    let f = words_there _ 3 _ c.requires.0 c.has_words-words.ensures (not-false _ c.if-not-words.false-raw) in
-    (f.runs, f.low, omega (arith, f.words, f.high), c.requires.1)
+pub returns-then-who-ne0 : goal.returns-then-who-ne0
+returns-then-who-ne0 c =
+    λ m t k. stops_at t Limit (call3_limit t k c.in_ok-t.ensures c.then-who-ne0.either)
 
-pub stack_word-v-requires : goal.stack_word-v-requires
-stack_word-v-requires c =
-    let f = words_there _ 3 _ c.requires.0 c.has_words-words.ensures (not-false _ c.if-not-words.false-raw) in
-    (f.runs, f.low, omega (arith, f.words, f.high), c.requires.1)
+pub returns-then-v-gt-MOST_VARIABLES : goal.returns-then-v-gt-MOST_VARIABLES
+returns-then-v-gt-MOST_VARIABLES c =
+    λ m t k. stops_at t Range (call3_range t k c.in_ok-t.ensures c.if-who-ne0.false c.if-who-ge-PROCESSES.false c.then-v-gt-MOST_VARIABLES.either)
 
-pub stack_word-p-requires : goal.stack_word-p-requires
-stack_word-p-requires c =
-    let f = words_there _ 3 _ c.requires.0 c.has_words-words.ensures (not-false _ c.if-not-words.false-raw) in
-    (f.runs, f.low, omega (arith, f.words, f.high), c.requires.1)
-
-pub returns-then-limit : goal.returns-then-limit
-returns-then-limit c =
-    λ m t k.
-    let q = c.args.private.now in
-    let w = three m q _ _ _ _ _ t.caller (c.has_words-words.ensures, c.if-not-words.false-raw) (c.stack_word-t.ensures, c.stack_word-v.ensures, c.stack_word-p.ensures) in
-    rw (c.stops-then-limit.ensures, t.caller, same_process m, call3_tested m k q w, rw t.caller at c.if-limit.true)
-
-pub returns-then-range : goal.returns-then-range
-returns-then-range c =
-    λ m t k.
-    let q = c.args.private.now in
-    let w = three m q _ _ _ _ _ t.caller (c.has_words-words.ensures, c.if-not-words.false-raw) (c.stack_word-t.ensures, c.stack_word-v.ensures, c.stack_word-p.ensures) in
-    rw (c.stops-then-range.ensures, t.caller, same_process m, call3_tested m k q w, rw t.caller at c.if-limit.false, c.if-range.true)
-
-pub overflow_add-p : goal.overflow_add-p
-overflow_add-p c =
-    omega (arith, few_words c.stack_word-v.result c.stack_word-p.result c.if-range.false)
-
-pub returns-then-not-all : goal.returns-then-not-all
-returns-then-not-all c =
-    λ m t k.
-    let q = c.args.private.now in
-    let w = three m q _ _ _ _ _ t.caller (c.has_words-words.ensures, c.if-not-words.false-raw) (c.stack_word-t.ensures, c.stack_word-v.ensures, c.stack_word-p.ensures) in
-    let few = has_words_lem m _ (3 + c.stack_word-p.result) _ _ t.caller c.has_words-all.ensures (not-true _ c.if-not-all.true-raw) in
-    rw (c.stops-then-not-all.ensures, t.caller, same_process m, call3_tested m k q w, rw t.caller at c.if-limit.false, c.if-range.false, few)
+pub returns-in_err-has_words : goal.returns-in_err-has_words
+returns-in_err-has_words c =
+    λ m t k. let few = rw c.from.ensures at c.in_err-has_words.ensures in
+    rw (call3_rest t k c.in_ok-t.ensures c.if-who-ne0.false c.if-who-ge-PROCESSES.false c.if-v-gt-MOST_VARIABLES.false c.if-v-p.false) (too_few t (3 + get_or c.in_ok-t.field-0 2 0) _ c.from_residual-in_err-has_words.result c.from_residual-in_err-has_words.ensures.1 few)
 
 pub returns-then-who-t : goal.returns-then-who-t
 returns-then-who-t c =
-    λ m t k.
-    let q = c.args.private.now in
-    let w = three m q _ _ _ _ _ t.caller (c.has_words-words.ensures, c.if-not-words.false-raw) (c.stack_word-t.ensures, c.stack_word-v.ensures, c.stack_word-p.ensures) in
-    let enough = has_words_lem m _ (3 + c.stack_word-p.result) _ _ t.caller c.has_words-all.ensures (not-false _ c.if-not-all.false-raw) in
-    rw (c.stops-then-who-t.ensures, t.caller, same_process m, call3_tested m k q w, rw t.caller at c.if-limit.false, c.if-range.false, enough, rw t.caller at (le-leb _ _ c.if-who-t.true))
-
-pub new_part-requires : goal.new_part-requires
-new_part-requires c =
-    let f = words_there _ (3 + c.stack_word-p.result) _ c.requires.0 c.has_words-all.ensures (not-false _ c.if-not-all.false-raw) in
-    (c.requires.0.made, (by_0 c.args.who.number c.args.who.created c.if-limit.false).1, f.low, omega (arith, f.words, f.high), few_words c.stack_word-v.result c.stack_word-p.result c.if-range.false, c.requires.1)
-
-pub overflow_add-p-2 : goal.overflow_add-p-2
-overflow_add-p-2 c =
-    omega (arith, few_words c.stack_word-v.result c.stack_word-p.result c.if-range.false)
-
-pub overflow_add-r : goal.overflow_add-r
-overflow_add-r c =
-    let f = words_there _ (3 + c.stack_word-p.result) _ c.requires.0 c.has_words-all.ensures (not-false _ c.if-not-all.false-raw) in
-    omega (arith, f.words, f.high)
-
-pub goes-requires : goal.goes-requires
-goes-requires c =
-    c.requires.0.near
+    λ m t k. let more = rw c.from.ensures at c.in_ok-has_words.ensures in
+    stops_at t Code (call3_code t k c.in_ok-t.ensures c.if-who-ne0.false c.if-who-ge-PROCESSES.false c.if-v-gt-MOST_VARIABLES.false c.if-v-p.false more c.if-who-t.true)
 
 pub returns : goal.returns
-unfolding passed
 returns c =
-    λ m t k.
-    let q = c.args.private.now in
-    let w = three m q _ _ _ _ _ t.caller (c.has_words-words.ensures, c.if-not-words.false-raw) (c.stack_word-t.ensures, c.stack_word-v.ensures, c.stack_word-p.ensures) in
-    let enough = has_words_lem m _ (3 + c.stack_word-p.result) _ _ t.caller c.has_words-all.ensures (not-false _ c.if-not-all.false-raw) in
-    rw (c.goes.ensures, c.new_part.ensures, ← call3-made m k q c.args.who w t.caller c.if-limit.false c.if-range.false enough c.if-who-t.false, t.caller)
+    λ m t k. let more = rw c.from.ensures at c.in_ok-has_words.ensures in
+    let l = c.in_ok-t.field-0 in
+    rw (c.goes.ensures, c.new_part.ensures) (goes_at t k _ (c.args.who.caller.process.regs.s + (3 + get_or l 2 0)) (Create (get_or l 0 0) (get_or l 1 0)) ∙ call3-made t k c.in_ok-t.ensures c.if-who-ne0.false c.if-who-ge-PROCESSES.false c.if-v-gt-MOST_VARIABLES.false c.if-v-p.false more c.if-who-t.false)

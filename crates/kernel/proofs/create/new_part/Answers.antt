@@ -1,4 +1,3 @@
-use mathlib.Core.Path.{refl}
 use Prim.Native.Nat.{◌*◌}
 use native.Mathlib.Omega.{arith}
 use Rattle.kernel.proofs.Part.{child_part_lem}
@@ -7,11 +6,10 @@ use Rattle.kernel.proofs.create.new_part.Goals as goal
 pub returns : goal.returns
 returns c =
     let a = c.args in
-    let child = c.wide_byte-at in
-    let s = c.wide in
-    let p = c.wide-2 in
-    let emptied = c.clear in
-    let again = c.wide-3 in
-    let copied = c.copy in
-    rw (copied.ensures, emptied.ensures, again.ensures.0, p.ensures.0, s.ensures.0, child.ensures.0)
-    (child_part_lem _ (2048 * a.child) _ a.p a.s (omega arith, omega arith, omega arith, omega arith, refl))
+    let last = c.own-last.ensures in
+    child_part_lem a.private.now c.fill.new.self c.reverse.new.self c.copy_within.new.self (2048 * c.from-at.result) _ _ _ c.own-last.result a.child a.s a.p
+    (omega arith, omega arith, last, omega (arith, last), omega arith, omega arith)
+    (omega arith, omega arith, omega arith)
+    (c.fill.ensures.after (λ y e. e))
+    c.copy_within.ensures.after
+    c.reverse.ensures.after

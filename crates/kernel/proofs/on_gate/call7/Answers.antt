@@ -1,28 +1,16 @@
-use mathlib.Core.Path.{◌∙◌, sym}
-use native.Mathlib.Omega.{arith}
-use Rattle.kernel.proofs.Laws.{call7-few, call7-gate, call7-goes, has_words_lem, same_process, words_there}
-use Rattle.machine.specs.Call.{passed}
+use mathlib.Core.Path.{refl}
+use Rattle.kernel.specs.declared.answer.Act.TheVariants.{Leave}
+use Rattle.machine.specs.Gate.{leave, may_leave}
+use Rattle.machine.specs.Call.{call7}
+use Rattle.kernel.proofs.Laws.{leave-out, gate_made, too_few}
 use Rattle.kernel.proofs.on_gate.call7.Goals as goal
 
-pub stack_word-requires : goal.stack_word-requires
-stack_word-requires c =
-    let f = words_there _ 1 _ c.requires.0 c.has_words-words.ensures c.if-words.true in (f.runs, f.low, omega (arith, f.words, f.high), c.requires.1)
+pub returns-in_err-gate : goal.returns-in_err-gate
+unfolding call7
+returns-in_err-gate c =
+    λ m t g k. too_few t 1 _ c.from_residual.result c.from_residual.ensures.1 c.in_err-gate.ensures
 
-pub returns-then-may : goal.returns-then-may
-unfolding passed
-returns-then-may c =
-    λ m t k. let e = has_words_lem m _ 1 _ _ t.caller c.has_words-words.ensures c.if-words.true in
-    let n = rw (c.stack_word.ensures, t.caller) at c.byte-g.ensures in
-    let few = rw t.caller at c.requires.0.few in
-    rw (c.goes.ensures, t.caller) (call7-goes m k _ _ e n few (sym (c.may_leave-may.ensures m (rw t.caller) (rw t.caller)) ∙ c.if-may.true))
-
-pub returns-else-may : goal.returns-else-may
-returns-else-may c =
-    λ m t k. let e = has_words_lem m _ 1 _ _ t.caller c.has_words-words.ensures c.if-words.true in
-    let n = rw (c.stack_word.ensures, t.caller) at c.byte-g.ensures in
-    let few = rw t.caller at c.requires.0.few in
-    rw (c.stops.ensures, t.caller, same_process m) (call7-gate m k _ _ e n few (sym (c.may_leave-may.ensures m (rw t.caller) (rw t.caller)) ∙ c.if-may.false))
-
-pub returns-else-words : goal.returns-else-words
-returns-else-words c =
-    λ m t k. let e = has_words_lem m _ 1 _ _ t.caller c.has_words-words.ensures c.if-words.false in rw (c.stops-else-words.ensures, t.caller, same_process m) (call7-few m k _ e)
+pub returns : goal.returns
+unfolding call7
+returns c =
+    λ m t g k. let few = rw t.caller at c.args.who.able.few in gate_made t may_leave leave (leave-out m few) k c.byte.result (Leave c.byte.result) c.in_ok-gate.ensures c.byte.ensures (c.make.ensures m t g) (λ n. refl) refl

@@ -1,8 +1,12 @@
-use Rattle.kernel.proofs.Laws.{call0-goes}
-use Rattle.machine.specs.Call.{passed}
+use mathlib.Core.Path.{◌≡◌, ◌∙◌}
+use Prim.Native.Nat.{◌+◌}
+use native.Mathlib.Omega.{arith}
+use Rattle.kernel.specs.declared.answer.Act.TheVariants.{WaitClock}
+use Rattle.machine.specs.Call.{call0}
+use Rattle.kernel.proofs.Laws.{goes_at, regs}
 use Rattle.kernel.proofs.small.call0.Goals as goal
 
 pub returns : goal.returns
-unfolding passed
+unfolding call0
 returns c =
-    λ m t k q. rw (c.goes.ensures, t.caller) (call0-goes m k q)
+    λ m t k q. let z : (regs m).s + 0 ≡ (regs m).s = omega arith in rw c.goes.ensures (goes_at t k q c.args.who.caller.process.regs.s WaitClock ∙ rw (t.caller, z))

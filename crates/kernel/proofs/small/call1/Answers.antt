@@ -1,17 +1,15 @@
-use native.Mathlib.Omega.{arith}
-use Rattle.kernel.proofs.Laws.{call1_full, call1-goes, has_room_lem, room_there, same_process}
-use Rattle.machine.specs.Call.{passed}
+use mathlib.Core.Path.{◌∙◌}
+use Rattle.kernel.specs.declared.answer.Act.TheVariants.{Go}
+use Rattle.machine.specs.Call.{call1}
+use Rattle.kernel.proofs.Laws.{full, goes_at, push_passed, roomy}
 use Rattle.kernel.proofs.small.call1.Goals as goal
 
-pub put-requires : goal.put-requires
-put-requires c =
-    let f = room_there _ _ c.requires.0 c.has_room-room.ensures c.if-room.true in (f.runs, omega (arith, f.room), omega (arith, f.room, f.high), c.requires.1)
+pub returns-in_err-s : goal.returns-in_err-s
+unfolding call1
+returns-in_err-s c =
+    λ m t k. let e = c.in_err-s.ensures in rw e.2 (full t _ c.from_residual.result c.from_residual.ensures.1 e.0 e.1)
 
-pub returns-then-room : goal.returns-then-room
-unfolding passed
-returns-then-room c =
-    λ m t k. rw (c.goes.ensures, c.put.ensures, t.caller) (call1-goes m k _ t.there (has_room_lem m _ _ _ t.caller c.has_room-room.ensures c.if-room.true))
-
-pub returns-else-room : goal.returns-else-room
-returns-else-room c =
-    λ m t k. rw (c.stops.ensures, t.caller, same_process m) (call1_full m k _ (has_room_lem m _ _ _ t.caller c.has_room-room.ensures c.if-room.false))
+pub returns : goal.returns
+unfolding call1
+returns c =
+    λ m t k. let e = c.in_ok-s.ensures in rw c.goes.ensures (goes_at t k _ c.in_ok-s.s Go ∙ push_passed t k c.args.private.now _ c.in_ok-s.s _ e.2 ∙ rw (roomy t e.0, e.1, t.caller))

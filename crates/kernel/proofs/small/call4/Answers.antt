@@ -1,13 +1,20 @@
+use mathlib.Core.Path.{◌≡◌, refl, ◌∙◌}
+use Prim.Native.Nat.{◌+◌}
+use native.Mathlib.Omega.{arith}
 use borrow.Author.Tests.{le-ltb, lt-ltb}
-use Rattle.kernel.proofs.Laws.{call4-ends, call4-holds, same_process}
-use Rattle.machine.specs.Call.{passed}
+use Rattle.word.specs.declared.Fault.TheVariants.{Gate}
+use Rattle.kernel.specs.declared.answer.Act.TheVariants.{Finish}
+use Rattle.machine.specs.Call.{call4}
+use Rattle.kernel.proofs.Laws.{goes_at, regs, stops_at}
 use Rattle.kernel.proofs.small.call4.Goals as goal
 
-pub returns-then-process-gt0 : goal.returns-then-process-gt0
-returns-then-process-gt0 c =
-    λ m t k q. rw (c.stops.ensures, t.caller, same_process m) (call4-holds m k q (rw t.caller at (lt-ltb _ _ c.if-process-gt0.true)))
+pub returns-then-who-gt0 : goal.returns-then-who-gt0
+unfolding call4
+returns-then-who-gt0 c =
+    λ m t k q. rw (rw t.caller at (lt-ltb _ _ c.if-who-gt0.true)) (stops_at t Gate refl)
 
-pub returns-else-process-gt0 : goal.returns-else-process-gt0
-unfolding passed
-returns-else-process-gt0 c =
-    λ m t k q. rw (c.goes.ensures, t.caller) (call4-ends m k q (rw t.caller at (le-ltb _ _ c.if-process-gt0.false)))
+pub returns : goal.returns
+unfolding call4
+returns c =
+    λ m t k q. let z : (regs m).s + 0 ≡ (regs m).s = omega arith in
+    rw c.goes.ensures (goes_at t k q c.args.who.caller.process.regs.s Finish ∙ rw (rw t.caller at (le-ltb _ _ c.if-who-gt0.false), t.caller, z))

@@ -1,18 +1,15 @@
--- The invariant: ok says the test of the first parts passed. The measure is how many are left.
-use Rattle.notation.specs.Upto.{all_to}
+use Prim.Native.Nat.{◌+◌, ◌*◌}
+use Rattle.layout.proofs.Tests.{places_below}
+use Rattle.layout.specs.Layout.{from, bytes}
+use Rattle.std.proofs.lemmas.Iterator.{YieldsList-from_range}
+use Rattle.std.proofs.lemmas.Iterator.Search.{all_from_yields_List}
 use borrow.Author.Rules.{rules}
-use mathlib.Core.Path.{◌≡◌}
-use native.Mathlib.Numerals.{add-one}
-use native.Mathlib.Omega.{arith}
+use mathlib.Core.Path.{refl, ◌∙◌}
 use Rattle.layout.proofs.test.devices_fit.Goals as goal
 
-pub loop-d-init : goal.loop-d-init
-unfolding all_to
-loop-d-init c = search rules
-
-pub loop-d-preserved : goal.loop-d-preserved
-unfolding all_to
-loop-d-preserved c = (omega arith, rw add-one (cc))
-
 pub returns : goal.returns
-returns c = let e : c.loop-d.d ≡ 5 = omega arith in cc
+returns c =
+    all_from_yields_List (λ d. bytes (from c.args.words.now (795 + 3 * d)) 2) _ _ c.all.result c.all.ensures.ran
+    (YieldsList-from_range 0 5 5 refl refl)
+    (λ x b q k. search rules)
+    ∙ places_below _ 5

@@ -1,18 +1,15 @@
--- The invariant: ok says the test of the first parts passed. The measure is how many are left.
-use Rattle.notation.specs.Upto.{all_to}
+use Prim.Native.Nat.{◌*◌}
+use Rattle.layout.proofs.Tests.{places_below}
+use Rattle.layout.specs.Layout.{from, process_fits}
+use Rattle.std.proofs.lemmas.Iterator.{YieldsList-from_range}
+use Rattle.std.proofs.lemmas.Iterator.Search.{all_from_yields_List}
 use borrow.Author.Rules.{rules}
-use mathlib.Core.Path.{◌≡◌}
-use native.Mathlib.Numerals.{add-one}
-use native.Mathlib.Omega.{arith}
+use mathlib.Core.Path.{refl, ◌∙◌}
 use Rattle.layout.proofs.test.processes_fit.Goals as goal
 
-pub loop-i-init : goal.loop-i-init
-unfolding all_to
-loop-i-init c = search rules
-
-pub loop-i-preserved : goal.loop-i-preserved
-unfolding all_to
-loop-i-preserved c = (omega arith, rw add-one (cc))
-
 pub returns : goal.returns
-returns c = let e : c.loop-i.i ≡ 10 = omega arith in cc
+returns c =
+    all_from_yields_List (λ i. process_fits (from c.args.words.now (24 * i))) _ _ c.all.result c.all.ensures.ran
+    (YieldsList-from_range 0 10 10 refl refl)
+    (λ x b q k. search rules)
+    ∙ places_below _ 10

@@ -1,9 +1,13 @@
-use Rattle.machine.specs.Gate.{continue, leave}
-use Rattle.machine.proofs.Parts.{continued}
+use borrow.Author.Tests.{le-leb, lt-leb}
+use Rattle.machine.specs.Gate.{continue}
 use Rattle.machine.proofs.Machine.continue_cell.Goals as goal
 
+pub returns-then-h-ge-NOBODY : goal.returns-then-h-ge-NOBODY
+unfolding continue
+returns-then-h-ge-NOBODY c =
+    rw (c.leave.ensures, ← c.cell_of-h.ensures, le-leb _ _ c.if-h-ge-NOBODY.true)
+
 pub returns : goal.returns
-unfolding continue leave
+unfolding continue
 returns c =
-    rw (c.hand_over.ensures, c.resumed.ensures)
-    (continued c.args.self _ _ (c.well_formed.0.1.1.1.0.1.0.1) _ _ c.gate_of-w.ensures)
+    rw (c.pass.ensures, c.sit.ensures, c.give_up.ensures, ← c.cell_of-h.ensures, lt-leb _ _ c.if-h-ge-NOBODY.false)

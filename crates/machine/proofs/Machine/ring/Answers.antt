@@ -1,9 +1,7 @@
 use Rattle.machine.specs.Clock.{bell}
-use Rattle.machine.proofs.Laws.{bell-woken}
+use Rattle.machine.proofs.Laws.{bell_after}
 use Rattle.machine.proofs.Machine.ring.Goals as goal
 
 pub returns : goal.returns
 unfolding bell
-returns c =
-    let m = c.args.self in
-    rw (c.select.ensures, bell-woken m.bell.len m (record { ready = m.ready; waiters = m.bell }), c.woken-x.ensures)
+returns c = rw (c.choose_next.ensures, bell_after c.args.self _ _ c.wake_all.ensures)

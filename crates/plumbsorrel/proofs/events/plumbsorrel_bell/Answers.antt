@@ -1,21 +1,14 @@
-use Rattle.plumbsorrel.proofs.Laws as L
-use mathlib.Core.Path.{refl}
-use mathlib.Core.Bool.{false, not}
-use mathlib.Core.List.{[]}
+use Rattle.image.specs.Refusal.{taken}
 use Rattle.machine.specs.Offer.{offer_bell}
+use Rattle.plumbsorrel.proofs.Laws.{refused_leaves, answered}
 use Rattle.plumbsorrel.specs.Offers.{c_bell}
+use mathlib.Core.List.{[]}
 use Rattle.plumbsorrel.proofs.events.plumbsorrel_bell.Goals as goal
 
--- src/events.rt:29:9
-pub of_check-requires : goal.of_check-requires
-of_check-requires c = L.little 7 (not c.unpack-u.result.known) c.check_known-known.result c.check_known-known.ensures
-
--- src/events.rt:29:9
-pub returns-in_default : goal.returns-in_default
+pub returns-in-Ok : goal.returns-in-Ok
 unfolding c_bell
-returns-in_default c = rw c.of_check.ensures (L.unknown-refuses c.args.state.now [] [] false offer_bell c.unpack-u.result c.unpack-u.ensures refl c.check_known-known.result c.check_known-known.ensures _ c.in_default.is)
+returns-in-Ok c = answered c.args.state.now [] [] (taken []) offer_bell _ c.known.ensures c.in-Ok.m c.in-Ok.is c.bell.result [] [] (c.bell.ensures [] []) _ _ c.put_back.ensures
 
--- src/events.rt:22:1
-pub returns : goal.returns
+pub returns-in-Err : goal.returns-in-Err
 unfolding c_bell
-returns c = L.answered c.args.state.now [] [] false offer_bell c.unpack-u.result c.unpack-u.ensures refl c.check_known-known.result c.check_known-known.ensures c.in-Passed.is c.bell.result [] [] (c.bell.ensures [] []) _ _ c.put_back.ensures
+returns-in-Err c = rw c.of_refusal.ensures (refused_leaves c.args.state.now [] [] (taken []) offer_bell _ c.known.ensures c.in-Err.r c.in-Err.is)

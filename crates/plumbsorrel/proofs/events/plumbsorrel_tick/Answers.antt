@@ -1,21 +1,14 @@
-use Rattle.plumbsorrel.proofs.Laws as L
-use mathlib.Core.Path.{refl}
-use mathlib.Core.Bool.{false, not}
-use mathlib.Core.List.{[]}
+use Rattle.image.specs.Refusal.{taken}
 use Rattle.machine.specs.Offer.{offer_tick}
+use Rattle.plumbsorrel.proofs.Laws.{refused_leaves, answered}
 use Rattle.plumbsorrel.specs.Offers.{c_tick}
+use mathlib.Core.List.{[]}
 use Rattle.plumbsorrel.proofs.events.plumbsorrel_tick.Goals as goal
 
--- src/events.rt:16:9
-pub of_check-requires : goal.of_check-requires
-of_check-requires c = L.little 7 (not c.unpack-u.result.known) c.check_known-known.result c.check_known-known.ensures
-
--- src/events.rt:16:9
-pub returns-in_default : goal.returns-in_default
+pub returns-in-Ok : goal.returns-in-Ok
 unfolding c_tick
-returns-in_default c = rw c.of_check.ensures (L.unknown-refuses c.args.state.now [] [] false offer_tick c.unpack-u.result c.unpack-u.ensures refl c.check_known-known.result c.check_known-known.ensures _ c.in_default.is)
+returns-in-Ok c = answered c.args.state.now [] [] (taken []) offer_tick _ c.known.ensures c.in-Ok.m c.in-Ok.is c.tick.result [] [] (c.tick.ensures [] []) _ _ c.put_back.ensures
 
--- src/events.rt:9:1
-pub returns : goal.returns
+pub returns-in-Err : goal.returns-in-Err
 unfolding c_tick
-returns c = L.answered c.args.state.now [] [] false offer_tick c.unpack-u.result c.unpack-u.ensures refl c.check_known-known.result c.check_known-known.ensures c.in-Passed.is c.tick.result [] [] (c.tick.ensures [] []) _ _ c.put_back.ensures
+returns-in-Err c = rw c.of_refusal.ensures (refused_leaves c.args.state.now [] [] (taken []) offer_tick _ c.known.ensures c.in-Err.r c.in-Err.is)

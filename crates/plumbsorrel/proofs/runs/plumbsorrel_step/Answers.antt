@@ -1,29 +1,10 @@
-use Rattle.plumbsorrel.proofs.Laws as L
-use mathlib.Core.Path.{refl}
-use mathlib.Core.Bool.{not, ◌&&◌}
-use Rattle.machine.specs.Offer.{stores_fit, offer_step}
-use Rattle.plumbsorrel.specs.Offers.{code_fits, c_step}
+-- An offered step is a run of one instruction.
+use Rattle.layout.specs.Layout.{unpacked}
+use Rattle.plumbsorrel.specs.Offers.{c_step, c_run}
+use Rattle.run.proofs.Course.{one-offer}
+use Rattle.run.specs.Said.{world}
 use Rattle.plumbsorrel.proofs.runs.plumbsorrel_step.Goals as goal
 
--- src/runs.rt:59:9
-pub of_check-requires : goal.of_check-requires
-of_check-requires c = L.little 6 (not (stores_fit c.args.common.now c.args.private.now && code_fits c.args.code.now c.args.state.now)) c.check_lent-lent.result (c.check_lent-lent.ensures c.args.code.now refl)
-
--- src/runs.rt:59:9
-pub returns-in_default : goal.returns-in_default
-unfolding c_step
-returns-in_default c = rw c.of_check.ensures (L.lent_refuses c.args.state.now c.args.common.now c.args.private.now (not (stores_fit c.args.common.now c.args.private.now && code_fits c.args.code.now c.args.state.now)) (offer_step c.args.code.now) c.check_lent-lent.result (c.check_lent-lent.ensures c.args.code.now refl) _ c.in_default.is)
-
--- src/runs.rt:64:9
-pub of_check-requires-in_default-known : goal.of_check-requires-in_default-known
-of_check-requires-in_default-known c = L.little 7 (not c.unpack-u.result.known) c.check_known-known.result c.check_known-known.ensures
-
--- src/runs.rt:64:9
-pub returns-in_default-known : goal.returns-in_default-known
-unfolding c_step
-returns-in_default-known c = rw c.of_check-in_default-known.ensures (L.unknown-refuses c.args.state.now c.args.common.now c.args.private.now (not (stores_fit c.args.common.now c.args.private.now && code_fits c.args.code.now c.args.state.now)) (offer_step c.args.code.now) c.unpack-u.result c.unpack-u.ensures (L.passed-row 6 (not (stores_fit c.args.common.now c.args.private.now && code_fits c.args.code.now c.args.state.now)) c.check_lent-lent.result (c.check_lent-lent.ensures c.args.code.now refl) c.in-Passed.is) c.check_known-known.result c.check_known-known.ensures _ c.in_default-known.is)
-
--- src/runs.rt:48:1
 pub returns : goal.returns
-unfolding c_step
-returns c = L.answered c.args.state.now c.args.common.now c.args.private.now (not (stores_fit c.args.common.now c.args.private.now && code_fits c.args.code.now c.args.state.now)) (offer_step c.args.code.now) c.unpack-u.result c.unpack-u.ensures (L.passed-row 6 (not (stores_fit c.args.common.now c.args.private.now && code_fits c.args.code.now c.args.state.now)) c.check_lent-lent.result (c.check_lent-lent.ensures c.args.code.now refl) c.in-Passed.is) c.check_known-known.result c.check_known-known.ensures c.in-Passed-known.is c.step-x.result _ _ c.step-x.ensures _ _ c.put_back.ensures
+unfolding c_step c_run
+returns c = rw (← one-offer c.args.code.now (world (unpacked c.args.state.now) c.args.common.now c.args.private.now)) c.plumbsorrel_run.ensures

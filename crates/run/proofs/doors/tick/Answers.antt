@@ -2,12 +2,10 @@ use Rattle.run.proofs.Chain as L
 use Rattle.machine.specs.Offer.{offer_tick}
 use Rattle.run.proofs.doors.tick.Goals as goal
 
--- src/doors.rt:22:9
-pub returns-in_default : goal.returns-in_default
+pub returns-in-Err : goal.returns-in-Err
 unfolding offer_tick
-returns-in_default c = λ κ q. rw c.answered.ensures (L.refuses c.check_machine-check.result _ c.check_machine-check.ensures (L.state_names_none c.args.m) _ _ _ c.in_default.is)
+returns-in-Err c = λ κ q. rw c.refused.ensures (L.refuses c.check_machine.result _ c.check_machine.ensures (L.state_names_none c.args.m) _ _ _ c.in-Err.is)
 
--- src/doors.rt:17:1
 pub returns : goal.returns
 unfolding offer_tick
-returns c = λ κ q. rw (c.answered-2.ensures, c.tick.ensures) (L.happens c.check_machine-check.result _ c.check_machine-check.ensures _ _ c.in-Passed.is)
+returns c = λ κ q. rw (c.event.ensures, c.tick.ensures) (L.happens c.check_machine.result _ c.check_machine.ensures _ _ c.in_default.is)

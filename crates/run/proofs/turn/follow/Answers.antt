@@ -1,26 +1,28 @@
+use mathlib.Core.Path.{◌≡◌, refl}
+use mathlib.Core.Logic.{⊎_elim}
+use Rattle.machine.specs.declared.Machine.{Machine}
+use Rattle.machine.specs.State.{with_process}
 use Rattle.kernel.proofs.Laws.{same_process}
+use Rattle.engine.specs.declared.burst.End.TheVariants.{Budget, Job}
+use Rattle.run.specs.Ran.{moved_on}
 use Rattle.run.proofs.turn.follow.Goals as goal
 
-pub stops-requires : goal.stops-requires
-stops-requires c =
-    rw c.in-Fault.is at c.requires
+pub returns-in-Call : goal.returns-in-Call
+unfolding with_process
+returns-in-Call c =
+    let who = c.caller_after-who.ensures in
+    rw c.in-Call.is (c.decide.ensures.0 (moved_on c.args.m.now c.args.x.regs) who.told who.there refl)
 
 pub returns-in-Budget : goal.returns-in-Budget
 returns-in-Budget c =
-    λ m e p g. rw (c.keeps.ensures, c.in-Budget.is, e, same_process m)
-
-pub returns-in-Job : goal.returns-in-Job
-returns-in-Job c =
-    λ m e p g. rw (c.keeps-in-Job.ensures, c.in-Job.is, e, same_process m)
-
-pub returns-in-Call : goal.returns-in-Call
-returns-in-Call c =
-    λ m e p g. rw c.in-Call.is (c.decide.ensures.0 m e p g)
+    let v : Machine = moved_on c.args.m.now c.args.x.regs in
+    ⊎_elim
+    (λ (e : c.args.x.end ≡ Budget). rw (e, c.caller_after-who.ensures.told, same_process v))
+    (λ (e : c.args.x.end ≡ Job). rw (e, c.caller_after-who.ensures.told, same_process v))
+    c.in-Budget.is
 
 pub returns-in-Fault : goal.returns-in-Fault
-returns-in-Fault c =
-    λ m e p g. rw (c.stops.ensures, c.in-Fault.is, e, same_process m)
+returns-in-Fault c = rw (c.in-Fault.is, c.caller_after-who.ensures.told, same_process (moved_on c.args.m.now c.args.x.regs))
 
 pub returns-in-Unfit : goal.returns-in-Unfit
-returns-in-Unfit c =
-    λ m e p g. rw (c.keeps-in-Unfit.ensures, c.in-Unfit.is, e, same_process m)
+returns-in-Unfit c = rw (c.in-Unfit.is, c.caller_after-who.ensures.told, same_process (moved_on c.args.m.now c.args.x.regs))

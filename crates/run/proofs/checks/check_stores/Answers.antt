@@ -1,9 +1,0 @@
-use Rattle.run.proofs.checks.check_stores.Goals as goal
-
--- src/checks.rt:15:1
-pub returns-then-fit : goal.returns-then-fit
-returns-then-fit c = rw c.if-fit.true
-
--- src/checks.rt:15:1
-pub returns-else-fit : goal.returns-else-fit
-returns-else-fit c = rw c.if-fit.false
