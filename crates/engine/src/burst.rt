@@ -2,7 +2,7 @@
 ghost use Rattle.std.specs.Prelude.{◌≡◌, Bool, List, ℕ, ◌≤◌, length};
 ghost use Rattle.machine.specs.Sound.{job_ok};
 ghost use Rattle.laws.specs.Marks.{Fit};
-ghost use Rattle.engine.specs.Did.{seen};
+ghost use Rattle.engine.specs.Did.{seen, sees};
 ghost use Rattle.engine.specs.Burst.{burst_says, goes_on, bursts, fit};
 
 use crate::perform::instruct;
@@ -10,7 +10,7 @@ use crate::sight::{Common, Own, Sight, Stop};
 use machine::{Machine, Regs};
 use word::Fault;
 
-// How a burst ends, in one of five ways of which none is its own failure, so no Result: a kernel call and a fault are left to be done.
+// How a burst ends. Five cases and no Result: `burst_says` and the theorem same_burst name them.
 #[derive(Clone, Copy)]
 pub enum End {
     Budget,
@@ -27,21 +27,21 @@ pub struct Burst {
     pub end: End,
 }
 
-// The job's registers in their ranges.
+// The job's registers in their ranges. As sound's, over usize; neither crate stands on the other.
+#[tactic(auto, unfolding(machine::specs::Sound::job_ok))]
 fn job_is_ok(n: usize, r: Regs) -> bool
     ensures { result ≡ job_ok n r }
 {
     if r.in_job {
-        let stop = (r.reason == 0)
-            | ((Machine::FIRST_REASON <= r.reason) & (r.reason <= Machine::LAST_REASON));
-        (r.c == r.saved_s)
-            & (r.saved_s <= r.saved_b)
-            & (r.saved_b <= Machine::CEILING)
-            & (usize::from(r.c) + usize::from(r.p) <= Machine::CEILING_AT)
-            & (usize::from(r.saved_address) <= n)
-            & stop
+        r.c == r.saved_s
+            && r.saved_s <= r.saved_b
+            && r.saved_b <= Machine::CEILING
+            && usize::from(r.c) + usize::from(r.p) <= Machine::CEILING_AT
+            && usize::from(r.saved_address) <= n
+            && (r.reason == 0
+                || Machine::FIRST_REASON <= r.reason && r.reason <= Machine::LAST_REASON)
     } else {
-        (r.c == Machine::CEILING) & (r.reason == 0)
+        r.c == Machine::CEILING && r.reason == 0
     }
 }
 
@@ -50,15 +50,15 @@ fn is_fit(code: &[u16], floor: u16, r: Regs, common: usize, own: usize) -> bool
     ensures { (h : Bool) (c q : List ℕ) → common ≡ length c → own ≡ length q → result ≡ fit (seen code.now floor h r c q) }
 {
     let n = code.len();
-    (common == Machine::COMMON)
-        & (own == Machine::PART)
-        & (n <= Machine::MOST_CODE)
-        & (usize::from(r.address) <= n)
-        & (Machine::OWN <= floor)
-        & (floor <= r.s)
-        & (r.s <= r.b)
-        & (r.b <= r.c)
-        & job_is_ok(n, r)
+    common == Machine::COMMON
+        && own == Machine::PART
+        && n <= Machine::MOST_CODE
+        && usize::from(r.address) <= n
+        && Machine::OWN <= floor
+        && floor <= r.s
+        && r.s <= r.b
+        && r.b <= r.c
+        && job_is_ok(n, r)
 }
 
 // Up to a budget of instructions.
@@ -82,28 +82,20 @@ pub fn run_burst(
     }
     let common = common.as_mut_array().unwrap();
     let own = own.as_mut_array().unwrap();
-    go_on(code, floor, holding, r, budget, common, own)
-}
-
-// The hot loop: nothing in it copies more than the registers.
-fn go_on(
-    code: &[u16],
-    floor: u16,
-    holding: bool,
-    r: Regs,
-    budget: u32,
-    common: &mut Common,
-    own: &mut Own,
-) -> Burst
-    requires { Fit (seen code.now floor holding r common.old own.old) × (length code.now ≤ 16256) }
-    ensures { burst_says result common.new own.new ≡ goes_on 0 budget (seen code.now floor holding r common.old own.old) }
-{
-    let mut v = Sight {
+    let v = Sight {
         code,
         floor,
         holding,
         regs: r,
     };
+    go_on(v, budget, common, own)
+}
+
+// The hot loop: nothing in it copies more than the registers.
+fn go_on(mut v: Sight, budget: u32, common: &mut Common, own: &mut Own) -> Burst
+    requires { Fit (sees v common.old own.old) × (length v.code.now ≤ 16256) }
+    ensures { burst_says result common.new own.new ≡ goes_on 0 budget (sees v.entry common.old own.old) }
+{
     for count in 0..budget {
         match instruct(&v, common, own) {
             Ok(next) => {

@@ -8,8 +8,8 @@ use crate::{flow, frame, job, place, stack};
 use machine::Regs;
 use word::Fault;
 
-// The instruction of a code word: a number, since any other is fault 7. An arm for each of 8 to 19, so that its operation is known: with `8 | 11` and `9..=19`, of a
-// code to be told apart once more, arithmetic took 1.1 times as long.
+// The instruction of a code word: a number, since any other is fault 7. An arm for each of 8 to 19, so that its operation is
+// known: with `8 | 11` and `9..=19`, of a code to be told apart once more, arithmetic took 1.1 times as long.
 #[tactic(auto, using(machine::proofs::Laws::cases), unfolding(machine::specs::Instruction::perform))]
 fn perform(op: u16, v: &Sight, common: &mut Common, own: &mut Own) -> Result<Regs, Stop>
     ensures { did result common.new own.new ≡ perform (sees v.now common.old own.old) op }

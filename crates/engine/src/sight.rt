@@ -57,7 +57,7 @@ impl Sight<'_> {
         if self.code.len() < at + K {
             return Err(Fault::Code);
         }
-        Ok(*self.code[at..at + K].as_array::<K>().unwrap())
+        Ok(*self.code[at..at + K].as_array().unwrap())
     }
 
     // The K words on top of the stack, the last pushed first, or fault 7.
@@ -73,7 +73,7 @@ impl Sight<'_> {
             return Err(Fault::Code);
         }
         let at = s - Machine::OWN_AT;
-        Ok(*own[at..at + K].as_array::<K>().unwrap())
+        Ok(*own[at..at + K].as_array().unwrap())
     }
 
     // The registers at an address, with S.

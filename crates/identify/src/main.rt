@@ -43,7 +43,8 @@ fn examine<R: Files + Print + Eprint>(rt: &R, path: &[u8]) -> io::Result<()> {
 }
 
 fn main(rt: HostRuntime) -> io::Result<()> {
-    // no path is longer; an argument is asked for by its number: std has no iterator over them
+    // no path is longer; an argument is asked for by its number: `env::args` copies all to the heap and fails at one that is not UTF-8, before
+    // an image is examined
     let mut path = [0; 4096];
     for i in 1..usize::MAX {
         match rt.arg(i, &mut path) {

@@ -117,7 +117,8 @@ fn lay_words(image: &[u8], at: usize, part: &mut [u16])
 }
 
 // The first n words of the buffer become the code, block by block; the rest stays. What is left over stands apart from the full
-// blocks: with both in one loop the compiler made no vectors of it, and took 1.6 times the instructions for a load.
+// blocks: with both in one loop the compiler made no vectors of it, and took 1.6 times the instructions for a load. By places: of what
+// `chunks_exact_mut` lent a proof knows the length alone.
 fn lay_code(image: &[u8], n: u16, code: &mut [u16])
     requires { (n ≤ length code.old) × (512 * (1 + code_blocks n) ≤ length image.now) }
     ensures { code.new ≡ laid (code_at image.now) n code.old }
@@ -126,11 +127,17 @@ fn lay_code(image: &[u8], n: u16, code: &mut [u16])
     let full = words / block::CONTENT;
     for i in 0..full {
         let from = block::CONTENT * i;
-        let to = from + block::CONTENT;
-        lay_words(image, block::WORDS * (1 + i) + 1, &mut code[from..to]);
+        lay_words(
+            image,
+            block::WORDS * (1 + i) + 1,
+            &mut code[from..from + block::CONTENT],
+        );
     }
-    let last = block::CONTENT * full;
-    lay_words(image, block::WORDS * (1 + full) + 1, &mut code[last..words]);
+    lay_words(
+        image,
+        block::WORDS * (1 + full) + 1,
+        &mut code[block::CONTENT * full..words],
+    );
 }
 
 // The code of n words, where the image has it and the buffer has room; else nothing changes.

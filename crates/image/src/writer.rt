@@ -55,7 +55,7 @@ fn field(h: Header, j: usize) -> u16
     fields.get(j).copied().unwrap_or(0)
 }
 
-// Content word j of block i.
+// Content word j of block i. Here and in the next three functions header and code stay two parameters: the definitions take the two so.
 #[tactic(auto, using(crate::proofs::Laws::cases))]
 fn content_word(h: Header, code: &[u16], i: u16, j: usize) -> u16
     requires { j < 254 }

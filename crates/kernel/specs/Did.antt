@@ -29,7 +29,7 @@ world m c q = record { machine = m; common = c; private = q }
 -- ---- what a call decides is a record of its caller and a move of the machine; what the move gives, and how the call ends
 abbrev pub performed : Machine → Act → Machine
 performed m Unfit = m
-performed m (Stop f line) = timed m (number_of f) line m.seconds m.fraction
+performed m (Stop f line) = timed m f line m.seconds m.fraction
 performed m Go = m
 performed m WaitClock = clock_wait m
 performed m WaitBell = bell_wait m
@@ -86,7 +86,7 @@ gone who s act =
 
 abbrev pub answered : Caller → Result Decision Fault → Decision
 answered who (Ok x) = x
-answered who (Err f) = record { process = who.process; act = Stop f who.process.regs.line }
+answered who (Err f) = record { process = who.process; act = Stop (number_of f) who.process.regs.line }
 
 -- whether a move of a gate is no fault
 abbrev pub may_make : Machine → Act → Bool

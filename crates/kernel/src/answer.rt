@@ -1,13 +1,12 @@
 // What a kernel call decides before the machine changes: its caller's record, and what else is to be done.
 use machine::Process;
-use word::Fault;
 
-// Nothing, where the caller or a store is not fit to begin; a stop with its fault and line; nothing more than the caller's record;
-// or a move of the machine.
+// Nothing, where the caller or a store is not fit to begin; a stop with its number and line (`perform` is public, and makes one with any
+// number); nothing more than the caller's record; or a move of the machine.
 #[derive(Clone, Copy)]
 pub enum Act {
     Unfit,
-    Stop(Fault, u16),
+    Stop(u8, u16),
     Go,
     WaitClock,
     WaitBell,

@@ -1,7 +1,6 @@
 // KTRAP k by its number, where the caller and the stores are fit for it: first the decision, then the move of the machine.
 ghost use Rattle.std.specs.Prelude.{◌≡◌};
 ghost use Rattle.machine.specs.State.{timed};
-ghost use Rattle.word.specs.Word.{number_of};
 ghost use Rattle.kernel.specs.Did.{performed, CallOf, CallDecided, answered};
 
 use crate::answer::{Act, Decision};
@@ -16,13 +15,13 @@ use word::Fault;
 #[tactic(auto, unfolding(machine::specs::Call::kernel))]
 fn call_of(
     who: Fit,
-    processes: [Process; Machine::PROCESSES as usize],
-    gates: [Gate; Machine::GATES as usize],
+    processes: &[Process; Machine::PROCESSES as usize],
+    gates: &[Gate; Machine::GATES as usize],
     k: u16,
     common: &mut [u16; Machine::COMMON],
     private: &mut [u16; Machine::PRIVATE],
 ) -> Result<Decision, Fault>
-    ensures { CallOf who.caller processes gates k (answered who.caller result) common.old common.new private.old private.new }
+    ensures { CallOf who.caller processes.now gates.now k (answered who.caller result) common.old common.new private.old private.new }
 {
     match k {
         0 => Ok(small::call0(who)),
@@ -63,14 +62,14 @@ pub fn decide(
     let Some(fit) = who.fit() else {
         return who.unfit();
     };
-    call_of(fit, processes, gates, k, common, private).unwrap_or_else(|fault| who.stops(fault))
+    call_of(fit, &processes, &gates, k, common, private).unwrap_or_else(|fault| who.stops(fault))
 }
 
 // The machine stops with a fault, at a line.
-fn halt(mut m: Machine, fault: Fault, line: u16) -> Machine
-    ensures { result ≡ timed m (number_of fault) line m.seconds m.fraction }
+fn halt(mut m: Machine, number: u8, line: u16) -> Machine
+    ensures { result ≡ timed m number line m.seconds m.fraction }
 {
-    m.stop = u8::from(fault);
+    m.stop = number;
     m.line = line;
     m
 }
@@ -81,7 +80,7 @@ pub fn perform(m: Machine, act: Act) -> Machine
 {
     match act {
         Act::Unfit => m,
-        Act::Stop(fault, line) => halt(m, fault, line),
+        Act::Stop(number, line) => halt(m, number, line),
         Act::Go => m,
         Act::WaitClock => m.clock_wait(),
         Act::WaitBell => m.bell_wait(),

@@ -10,8 +10,8 @@ use image::Header;
 use machine::{Device, Machine, Process};
 use word::Fault;
 
-// What a call is told of the machine by who has it in hand: the caller's number and record, and the fields that calls read. A
-// call is given no machine, since each function that is given one and indexes it keeps a copy of it.
+// What a call is told of the machine by who has it in hand: the caller's number and record, and the fields that calls read; and no
+// machine in its place: (a) `decide` is public, and its contract speaks of Caller.
 #[derive(Clone, Copy)]
 pub struct Caller {
     pub number: u8,
@@ -58,7 +58,7 @@ impl Caller {
         let process = self.process;
         Decision {
             process,
-            act: Act::Stop(fault, process.regs.line),
+            act: Act::Stop(fault.into(), process.regs.line),
         }
     }
 

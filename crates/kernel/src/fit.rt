@@ -47,7 +47,7 @@ impl Fit {
     {
         self.has_words(K)?;
         let at = own(self.caller.number, self.caller.process.regs.s);
-        Ok(*private[at..].first_chunk().unwrap())
+        Ok(*private[at..at + K].as_array().unwrap())
     }
 
     // A word more on the stack, where it has room above the floor L: the new S.

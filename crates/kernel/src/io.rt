@@ -27,6 +27,7 @@ pub(crate) fn is_held(x: Device) -> bool
 }
 
 // The two stores stay two parameters: with a struct of two `&mut` each contract would have to say that it still holds the same borrows.
+
 // The word at an address of process i.
 #[tactic(auto, unfolding(machine::specs::Store::place_of))]
 fn fetch(i: u8, a: u16, common: &[u16; Machine::COMMON], private: &[u16; Machine::PRIVATE]) -> u16

@@ -19,13 +19,13 @@ pub(crate) fn byte(x: u16) -> u8
 }
 
 // Whether a move of a gate is no fault. Each is asked of other parts, as in `call_of`.
-fn may(who: Caller, gates: [Gate; Machine::GATES as usize], act: Act) -> bool
-    ensures { (m : Machine) → Told who m → m.gates ≡ gates → result ≡ may_make m act }
+fn may(who: Caller, gates: &[Gate; Machine::GATES as usize], act: Act) -> bool
+    ensures { (m : Machine) → Told who m → m.gates ≡ gates.now → result ≡ may_make m act }
 {
     match act {
-        Act::Enter(g) => moves::may_enter(who.process, who.number, gates, who.made, g),
+        Act::Enter(g) => moves::may_enter(who.process, who.number, *gates, who.made, g),
         Act::Leave(g) => moves::may_leave(who.process, who.made, g),
-        Act::Delay(g, c) => moves::may_delay(who.process, gates, who.made, g, c),
+        Act::Delay(g, c) => moves::may_delay(who.process, *gates, who.made, g, c),
         Act::Continue(g, c) => moves::may_continue(who.process, who.made, g, c),
         _ => true,
     }
@@ -34,12 +34,12 @@ fn may(who: Caller, gates: [Gate; Machine::GATES as usize], act: Act) -> bool
 // The move, where the caller may make it, with k words popped.
 fn make(
     who: Fit,
-    gates: [Gate; Machine::GATES as usize],
+    gates: &[Gate; Machine::GATES as usize],
     k: u16,
     act: Act,
 ) -> Result<Decision, Fault>
     requires { k ≤ 2 }
-    ensures { (m : Machine) → Told who.caller m → m.gates ≡ gates → result ≡ if (may_make m act) (Ok (gone who.caller (who.caller.process.regs.s + k) act)) (Err Fault.Gate) }
+    ensures { (m : Machine) → Told who.caller m → m.gates ≡ gates.now → result ≡ if (may_make m act) (Ok (gone who.caller (who.caller.process.regs.s + k) act)) (Err Fault.Gate) }
 {
     if !may(who.caller, gates, act) {
         return Err(Fault::Gate);
@@ -49,13 +49,14 @@ fn make(
 
 // Calls 6 and 7, and 8 and 9, are twins but for the move. One function that takes it as a closure would have a contract of that
 // closure's predicates, longer than the two.
+
 // 6 enter: pop gate.
 pub(crate) fn call6(
     who: Fit,
-    gates: [Gate; Machine::GATES as usize],
+    gates: &[Gate; Machine::GATES as usize],
     private: &[u16; Machine::PRIVATE],
 ) -> Result<Decision, Fault>
-    ensures { (m : Machine) → Told who.caller m → m.gates ≡ gates → OnPrivate (answered who.caller result) m private.now private.now call6 }
+    ensures { (m : Machine) → Told who.caller m → m.gates ≡ gates.now → OnPrivate (answered who.caller result) m private.now private.now call6 }
 {
     let [gate] = who.words::<1>(private)?;
     make(who, gates, 1, Act::Enter(byte(gate)))
@@ -64,10 +65,10 @@ pub(crate) fn call6(
 // 7 leave: pop gate.
 pub(crate) fn call7(
     who: Fit,
-    gates: [Gate; Machine::GATES as usize],
+    gates: &[Gate; Machine::GATES as usize],
     private: &[u16; Machine::PRIVATE],
 ) -> Result<Decision, Fault>
-    ensures { (m : Machine) → Told who.caller m → m.gates ≡ gates → OnPrivate (answered who.caller result) m private.now private.now call7 }
+    ensures { (m : Machine) → Told who.caller m → m.gates ≡ gates.now → OnPrivate (answered who.caller result) m private.now private.now call7 }
 {
     let [gate] = who.words::<1>(private)?;
     make(who, gates, 1, Act::Leave(byte(gate)))
@@ -76,10 +77,10 @@ pub(crate) fn call7(
 // 8 delay: pop cell, gate.
 pub(crate) fn call8(
     who: Fit,
-    gates: [Gate; Machine::GATES as usize],
+    gates: &[Gate; Machine::GATES as usize],
     private: &[u16; Machine::PRIVATE],
 ) -> Result<Decision, Fault>
-    ensures { (m : Machine) → Told who.caller m → m.gates ≡ gates → OnPrivate (answered who.caller result) m private.now private.now call8 }
+    ensures { (m : Machine) → Told who.caller m → m.gates ≡ gates.now → OnPrivate (answered who.caller result) m private.now private.now call8 }
 {
     let [cell, gate] = who.words::<2>(private)?;
     make(who, gates, 2, Act::Delay(byte(gate), byte(cell)))
@@ -88,10 +89,10 @@ pub(crate) fn call8(
 // 9 continue: pop cell, gate.
 pub(crate) fn call9(
     who: Fit,
-    gates: [Gate; Machine::GATES as usize],
+    gates: &[Gate; Machine::GATES as usize],
     private: &[u16; Machine::PRIVATE],
 ) -> Result<Decision, Fault>
-    ensures { (m : Machine) → Told who.caller m → m.gates ≡ gates → OnPrivate (answered who.caller result) m private.now private.now call9 }
+    ensures { (m : Machine) → Told who.caller m → m.gates ≡ gates.now → OnPrivate (answered who.caller result) m private.now private.now call9 }
 {
     let [cell, gate] = who.words::<2>(private)?;
     make(who, gates, 2, Act::Continue(byte(gate), byte(cell)))

@@ -27,21 +27,25 @@ pub(crate) fn call1(who: Fit, private: &mut [u16; Machine::PRIVATE]) -> Result<D
     Ok(who.goes(s, Act::Go))
 }
 
-// The fault of a number, 0 to 6, with which a process may stop the machine; any other is 7. A table of them would need a test of its
-// length, and say no more.
+// The faults with which a process may stop the machine, by their numbers 0 to 6.
+const STOPS: [Fault; 7] = [
+    Fault::Terminated,
+    Fault::Overflow,
+    Fault::Pointer,
+    Fault::Range,
+    Fault::Variant,
+    Fault::HeapLimit,
+    Fault::StackLimit,
+];
+
+// The fault of a number; of any other it is 7.
 fn asked(number: u16) -> Fault
     ensures { number_of result ≡ if (leb number 6) number 7 }
 {
-    match number {
-        0 => Fault::Terminated,
-        1 => Fault::Overflow,
-        2 => Fault::Pointer,
-        3 => Fault::Range,
-        4 => Fault::Variant,
-        5 => Fault::HeapLimit,
-        6 => Fault::StackLimit,
-        _ => Fault::Code,
-    }
+    STOPS
+        .get(usize::from(number))
+        .copied()
+        .unwrap_or(Fault::Code)
 }
 
 // 2 pop r, stop the machine with r.
@@ -65,10 +69,10 @@ pub(crate) fn call4(who: Fit) -> Result<Decision, Fault>
 // 5 stop job: pop reason, process; push the answer.
 pub(crate) fn call5(
     who: Fit,
-    processes: [Process; Machine::PROCESSES as usize],
+    processes: &[Process; Machine::PROCESSES as usize],
     private: &mut [u16; Machine::PRIVATE],
 ) -> Result<Decision, Fault>
-    ensures { (m : Machine) → Told who.caller m → m.processes ≡ set processes who.caller.number who.caller.process → OnPrivate (answered who.caller result) m private.old private.new call5 }
+    ensures { (m : Machine) → Told who.caller m → m.processes ≡ set processes.now who.caller.number who.caller.process → OnPrivate (answered who.caller result) m private.old private.new call5 }
 {
     let [reason, q] = who.words::<2>(private)?;
     let Caller {
@@ -78,6 +82,6 @@ pub(crate) fn call5(
         ..
     } = who.caller;
     let s = process.regs.s + 1;
-    private[own(number, s)] = moves::stop_answer(processes, number, process, created, q, reason);
+    private[own(number, s)] = moves::stop_answer(*processes, number, process, created, q, reason);
     Ok(who.goes(s, Act::StopJob(q, reason)))
 }

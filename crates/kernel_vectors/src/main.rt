@@ -885,7 +885,7 @@ static ALONE: [Step; 108] = [
     Fresh(0, 0, 16257),
 ];
 
-// Where a process has an address of its own part.
+// Where a process has an address of its own part. As the kernel's, which is not public.
 fn own(q: u8, a: u16) -> usize
     requires { 2048 ≤ a }
 {
@@ -1079,6 +1079,7 @@ impl World {
             None => Process::started(0, 0),
         };
         let m = self.machine;
+        // named first: the borrow checker does not cover a field that is an array put straight into a literal
         let devices = m.devices;
         let who = Caller {
             number: m.running,

@@ -32,9 +32,5 @@ pub fn unpack(words: &[u16]) -> Option<Machine>
     ensures { result ≡ unpacked_if words.now }
 {
     let words = words.as_array()?;
-    if test::fit(words) {
-        Some(whole::get(words))
-    } else {
-        None
-    }
+    test::fit(words).then(|| whole::get(words))
 }

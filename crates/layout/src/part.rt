@@ -8,6 +8,7 @@ ghost use Rattle.layout.specs.Write.{Put};
 use crate::WORDS;
 use std::array;
 
+// The words and the place stay two parameters: `put` lends the words to change and `get` to read, and a struct for each would be no shorter.
 pub(crate) trait Part: Copy {
     // How many words.
     const WIDTH: usize;

@@ -70,7 +70,7 @@ impl Part for Queue {
     #[tactic(auto, using(crate::proofs::InOrder::reads))]
     fn get(words: &[u16; WORDS], at: usize) -> Queue {
         Queue {
-            len: words[at] as u8,
+            len: u8::get(words, at),
             at: get_all(words, at + 1),
         }
     }
@@ -96,7 +96,7 @@ impl Part for Gate {
     #[tactic(auto, using(crate::proofs::InOrder::reads))]
     fn get(words: &[u16; WORDS], at: usize) -> Gate {
         Gate {
-            holder: words[at] as u8,
+            holder: u8::get(words, at),
             queue: Queue::get(words, at + 1),
             cells: get_all(words, at + 12),
         }
@@ -177,9 +177,9 @@ impl Part for Process {
         Process {
             regs: Regs::get(words, at),
             variables: words[at + 11],
-            slice: words[at + 12] as u8,
-            class: words[at + 13] as u8,
-            holds: words[at + 14] as u8,
+            slice: u8::get(words, at + 12),
+            class: u8::get(words, at + 13),
+            holds: u8::get(words, at + 14),
             held: get_all(words, at + 15),
             ended: words[at + 23] == 1,
         }
@@ -205,8 +205,8 @@ impl Part for Device {
     #[tactic(auto, using(crate::proofs::InOrder::reads))]
     fn get(words: &[u16; WORDS], at: usize) -> Device {
         Device {
-            process: words[at] as u8,
-            operation: words[at + 1] as u8,
+            process: u8::get(words, at),
+            operation: u8::get(words, at + 1),
             address: words[at + 2],
         }
     }

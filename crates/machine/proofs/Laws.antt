@@ -1,5 +1,5 @@
 -- Why the code's tests are those of the definitions: what a list gives and takes past its end
-use mathlib.Core.Path.{◌≡◌, refl, ap, ◌∙◌}
+use mathlib.Core.Path.{◌≡◌, refl, ap, sym, ◌∙◌}
 use mathlib.Core.Bool.{Bool, true, false, ◌&&◌, not, and-false, and-true}
 use mathlib.Core.List.{List, [], ◌∷◌}
 use Prim.Native.Nat.{ℕ, zero, suc, ◌+◌, ◌-◌, ◌≤◌, ◌<◌}
@@ -11,11 +11,12 @@ use borrow.Author.Tests.{ltb-true, lt-ltb, le-ltb, le-leb, lt-leb, eq-eqb, ne_eq
 use borrow.Author.Rules.{rules}
 use Rattle.notation.specs.If.{if}
 use Rattle.notation.proofs.Upto.{below?, split}
-use Rattle.std.specs.Prelude.{position, unwrap_or}
+use Rattle.std.specs.Prelude.{Option, Some, None, position, unwrap_or}
+use Rattle.std.proofs.lemmas.List.Quantifiers.{position-Some}
 use Rattle.machine.specs.declared.Queue.{Queue}
 use Rattle.machine.specs.declared.Process.{Process}
 use Rattle.machine.specs.declared.Machine.{Machine}
-use Rattle.machine.specs.State.{nobody, parts, proc, with_process}
+use Rattle.machine.specs.State.{no_queue, nobody, parts, proc, with_process}
 use Rattle.machine.specs.Classes.{best, push, selects, wake}
 use Rattle.machine.specs.Clock.{clock_one, clock_wake, bell_one, bell_wake}
 use Rattle.machine.specs.Parts.{one_woken, Waking, woken}
@@ -143,3 +144,8 @@ best_place (a ∷ b ∷ c ∷ []) e m f =
     (λ x. split (ltb 0 b.len) (λ y. rw (x, y))
     (λ y. split (ltb 0 c.len) (λ z. rw (x, y, z)) (λ z. rw (x, y, z)))))
 best_place (a ∷ b ∷ c ∷ d ∷ qs) e m f = absurd (omega (arith, e))
+
+-- and a class so found has somebody
+pub place_has : (qs : List Queue) (o : Option ℕ) → o ≡ position (λ q. ltb 0 q.len) qs → unwrap_or o 3 < 3 → 0 < (get_or qs (unwrap_or o 3) no_queue).len
+place_has qs None e l = absurd (omega (arith, l))
+place_has qs (Some i) e l = ltb-true _ _ (position-Some _ qs i no_queue (sym e)).1

@@ -8,17 +8,24 @@ ghost use Rattle.machine.specs.Classes.{joined, best, selection, select, set_run
 ghost use Rattle.machine.specs.Parts.{afterwards};
 
 use crate::gates::one_more;
-use crate::{Machine, Process, Queue};
+use crate::{Machine, Processes, Queue};
 
 // ---- the ready queues alone: they are 33 bytes, and where they are indexed no machine is copied
 // h joins the tail of class c.
 #[tactic(auto, using(crate::proofs::Laws::past))]
-pub fn joined(mut ready: [Queue; 3], c: u8, h: u8) -> [Queue; 3]
-    ensures { result ≡ joined ready c h }
+pub(crate) fn join(ready: &mut [Queue; 3], c: u8, h: u8)
+    ensures { ready.new ≡ joined ready.old c h }
 {
     if c < 3 {
         ready[usize::from(c)].push(h);
     }
+}
+
+// The same by value.
+pub fn joined(mut ready: [Queue; 3], c: u8, h: u8) -> [Queue; 3]
+    ensures { result ≡ joined ready c h }
+{
+    join(&mut ready, c, h);
     ready
 }
 
@@ -31,14 +38,15 @@ pub struct Selection {
     pub mark: bool,
 }
 
-// The head of class c is taken off; a class that is not there has 0.
-#[tactic(auto, using(crate::proofs::Laws::past))]
+// The head of class c, which has somebody, is taken off; a class that is not there has 0.
+#[tactic(auto, using(crate::proofs::Laws::cases, crate::proofs::Laws::past))]
 fn take_head(ready: &mut [Queue; 3], c: u8) -> u8
+    requires { c < 3 → 0 < (get_or ready.now c no_queue).len }
     ensures head { result ≡ first (get_or ready.old c no_queue) }
     ensures less { ready.new ≡ set ready.old c (rest (get_or ready.old c no_queue)) }
 {
     if c < 3 {
-        ready[usize::from(c)].pop()
+        ready[usize::from(c)].pop().unwrap_or(0)
     } else {
         0
     }
@@ -122,7 +130,7 @@ pub fn selected(ready: [Queue; 3], i: u8, class: u8, count: u8, mark: bool) -> S
 }
 
 // The class of process i; one that is not there has class 0.
-pub fn class_of(processes: &[Process; Machine::PROCESSES as usize], i: u8) -> u8
+pub fn class_of(processes: &Processes, i: u8) -> u8
     ensures { result ≡ (get_or processes.now i no_process).class }
 {
     processes.get(usize::from(i)).map_or(0, |p| p.class)
@@ -143,8 +151,7 @@ impl Machine {
     pub(crate) fn wake(&mut self, h: u8)
         ensures { self.new ≡ wake self.old h }
     {
-        let ready = joined(self.ready, class_of(&self.processes, h), h);
-        self.ready = ready;
+        join(&mut self.ready, class_of(&self.processes, h), h);
     }
 
     // The selection by value, as document 01 asks for it.
@@ -182,7 +189,8 @@ fn first_ready(queues: &[Queue]) -> Option<usize>
 
 // Its number, or 3: the definitions compare any class with it, where a slice ends too.
 pub(crate) fn best_of(queues: [Queue; 3]) -> u8
-    ensures { (m : Machine) → m.ready ≡ queues → result ≡ best m }
+    ensures best { (m : Machine) → m.ready ≡ queues → result ≡ best m }
+    ensures has { result < 3 → 0 < (get_or queues result no_queue).len }
 {
     first_ready(&queues).unwrap_or(3) as u8
 }

@@ -6,8 +6,8 @@ ghost use Rattle.machine.specs.State.{proc};
 ghost use Rattle.machine.specs.Clock.{clock_wait, bell_wait, next_second, time_passes, fallen, yields, slice_passes, tick, bell};
 ghost use Rattle.machine.specs.Parts.{woken, aged};
 
-use crate::classes::{best_of, class_of, joined};
-use crate::{Machine, Process, Queue};
+use crate::classes::{best_of, class_of, join};
+use crate::{Machine, Process, Processes, Queue};
 
 // Class 1 falls to 2.
 #[tactic(auto, using(crate::proofs::Laws::cases))]
@@ -43,18 +43,13 @@ fn next_second(s: u16) -> u16
     if s < Machine::LAST_SECOND { s + 1 } else { 0 }
 }
 
-// All waiters wake, in order: nothing is counted, the loop ends with the queue, and who is first is asked of one that has somebody.
+// All waiters wake, in order; the loop ends with the queue.
 #[tactic(auto, using(crate::proofs::Laws::woken_next, crate::proofs::Laws::woken_over), unfolding(crate::specs::Queue::rest, crate::specs::Parts::one_woken))]
-fn wake_all(
-    processes: &[Process; Machine::PROCESSES as usize],
-    ready: &mut [Queue; 3],
-    waiters: &mut Queue,
-)
+fn wake_all(processes: &Processes, ready: &mut [Queue; 3], waiters: &mut Queue)
     ensures { woken waiters.old.len processes.now (record { ready = ready.old; waiters = waiters.old }) ≡ record { ready = ready.new; waiters = waiters.new } }
 {
-    while 0 < waiters.len {
-        let h = waiters.pop();
-        *ready = joined(*ready, class_of(processes, h), h);
+    while let Some(h) = waiters.pop() {
+        join(ready, class_of(processes, h), h);
     }
 }
 
@@ -109,12 +104,9 @@ impl Machine {
     fn slice_passes(&mut self, h: u8)
         ensures { self.new ≡ if (leb 10 h) self.old (slice_passes self.old h) }
     {
-        if h < Machine::PROCESSES {
-            let over = self.processes[usize::from(h)].age();
-            if over {
-                self.mark = false;
-                self.yields(h);
-            }
+        if h < Machine::PROCESSES && self.processes[usize::from(h)].age() {
+            self.mark = false;
+            self.yields(h);
         }
     }
 

@@ -4,7 +4,7 @@ ghost use Rattle.notation.specs.If.{if};
 ghost use Rattle.machine.specs.State.{more, no_gate};
 ghost use Rattle.machine.specs.Gate.{entered, given, grant, give_up, sit, pass, hand_on, enter, leave, delay, continue, make_gate};
 
-use crate::{Gate, Machine, Process, Queue};
+use crate::{Gate, Gates, Machine, Process, Queue};
 
 // Giving up the last gate held makes the class 2. Beside `fallen`: another test, other classes.
 #[tactic(auto, using(crate::proofs::Laws::cases))]
@@ -38,7 +38,7 @@ impl Process {
 }
 
 impl Gate {
-    pub const OPEN: Gate = Gate {
+    pub(crate) const OPEN: Gate = Gate {
         holder: Machine::NOBODY,
         queue: Queue::EMPTY,
         cells: [Machine::NOBODY; Machine::CELLS as usize],
@@ -56,7 +56,7 @@ impl Gate {
         }
     }
 
-    // One guarded write, as of a device or of a process's end in moves: of another part each, and no line is shared.
+    // A guarded write, as of a device or of a process's end in moves: one generic `set` for them would have to be public.
     #[tactic(auto, using(crate::proofs::Laws::past))]
     fn seat(&mut self, c: u8, x: u8)
         ensures { self.new ≡ record { holder = self.old.holder; queue = self.old.queue; cells = set self.old.cells c x } }
@@ -68,7 +68,7 @@ impl Gate {
 }
 
 // Who sits in cell c of g; in what is not there, 0.
-fn cell_of(gates: &[Gate; Machine::GATES as usize], g: u8, c: u8) -> u8
+fn cell_of(gates: &Gates, g: u8, c: u8) -> u8
     ensures { result ≡ get_or (get_or gates.now g no_gate).cells c 0 }
 {
     gates.get(usize::from(g)).map_or(0, |w| w.cell(c))
@@ -126,8 +126,9 @@ impl Machine {
     fn hand_on(&mut self, g: u8)
         ensures { self.new ≡ hand_on self.old g }
     {
-        if g < Machine::GATES && self.gates[usize::from(g)].queue.len != 0 {
-            let h = self.gates[usize::from(g)].queue.pop();
+        if g < Machine::GATES
+            && let Some(h) = self.gates[usize::from(g)].queue.pop()
+        {
             self.pass(g, h);
         }
     }

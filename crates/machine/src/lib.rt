@@ -65,12 +65,16 @@ pub struct Device {
     pub address: u16,
 }
 
+pub type Processes = [Process; Machine::PROCESSES as usize];
+
+pub type Gates = [Gate; Machine::GATES as usize];
+
 // The count is of selections from class 0 or 1 while class 2 is not empty; the mark is the running process's.
 // Nobody runs, holds, sits or waits where the number is 10; the machine is stopped unless stop is 10.
 #[derive(Clone, Copy)]
 pub struct Machine {
-    pub processes: [Process; Machine::PROCESSES as usize],
-    pub gates: [Gate; Machine::GATES as usize],
+    pub processes: Processes,
+    pub gates: Gates,
     pub ready: [Queue; 3],
     pub clock: Queue,
     pub bell: Queue,
@@ -121,7 +125,7 @@ impl Process {
 }
 
 impl Device {
-    pub const IDLE: Device = Device {
+    pub(crate) const IDLE: Device = Device {
         process: Machine::NOBODY,
         operation: 0,
         address: 0,

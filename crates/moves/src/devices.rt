@@ -5,7 +5,7 @@ ghost use Rattle.machine.specs.State.{no_process, with_class};
 ghost use Rattle.machine.specs.Device.{device_start, device_end};
 
 use crate::ready::{set_running, wake};
-use machine::{Device, Machine, Process};
+use machine::{Device, Machine, Processes};
 
 // Class 1, but 0 while holding a gate. Beside the machine's `class_without`: another test, other classes.
 #[tactic(auto, using(machine::proofs::Laws::cases))]
@@ -42,12 +42,12 @@ pub fn device_start(mut m: Machine, d: u8, operation: u8, address: u16) -> Machi
 
 // The class of h after its device ended.
 #[tactic(auto, using(machine::proofs::Laws::past))]
-fn set_class_after(processes: &mut [Process; Machine::PROCESSES as usize], h: u8)
+fn set_class_after(processes: &mut Processes, h: u8)
     ensures { processes.new ≡ set processes.old h (with_class (get_or processes.old h no_process) (if (eqb (get_or processes.old h no_process).holds 0) 1 0)) }
 {
     if h < Machine::PROCESSES {
-        let holds = processes[usize::from(h)].holds;
-        processes[usize::from(h)].class = class_after(holds);
+        let p = &mut processes[usize::from(h)];
+        p.class = class_after(p.holds);
     }
 }
 

@@ -7,12 +7,12 @@ ghost use Rattle.machine.specs.Call.{create_process, over, finish, stop_answer, 
 ghost use Rattle.moves.specs.Stop.{number_of, answered};
 
 use crate::ready::{set_running, wake};
-use machine::{Machine, Process};
+use machine::{Machine, Process, Processes};
 
 // ---- call 3
 // The child's record, as process 0 started; of an eleventh there is none.
 #[tactic(auto, using(machine::proofs::Laws::cases, machine::proofs::Laws::past))]
-fn born(processes: &mut [Process; Machine::PROCESSES as usize], created: &mut u8, t: u16, v: u16)
+fn born(processes: &mut Processes, created: &mut u8, t: u16, v: u16)
     ensures child { processes.new ≡ set processes.old created.old (started t v) }
     ensures one_more { created.new ≡ more created.old 10 }
 {
@@ -47,8 +47,9 @@ pub fn finish(mut m: Machine) -> Machine
     m
 }
 
+// A guarded write, as a device's and as the machine's `seat`: one generic `set` for them would have to be public in machine.
 #[tactic(auto, using(machine::proofs::Laws::past))]
-fn set_ended(processes: &mut [Process; Machine::PROCESSES as usize], h: u8)
+fn set_ended(processes: &mut Processes, h: u8)
     ensures { processes.new ≡ set processes.old h (over (get_or processes.old h no_process)) }
 {
     if h < Machine::PROCESSES {
@@ -76,12 +77,7 @@ impl From<NotStopped> for u16 {
 
 // Whether the job of process q may be stopped; of a process that is not there, there is no job.
 #[tactic(auto, using(machine::proofs::Laws::cases, machine::proofs::Laws::past), unfolding(machine::specs::Call::stop_answer))]
-fn check_stop(
-    processes: &[Process; Machine::PROCESSES as usize],
-    created: u8,
-    q: u16,
-    reason: u16,
-) -> Result<(), NotStopped>
+fn check_stop(processes: &Processes, created: u8, q: u16, reason: u16) -> Result<(), NotStopped>
     ensures { (m : Machine) → m.processes ≡ processes.now → m.created ≡ created → answered result ≡ stop_answer m q reason }
 {
     if u16::from(created) <= q {
@@ -117,7 +113,7 @@ pub fn stop_job(mut m: Machine, q: u16, reason: u16) -> Machine
 // Call 5 pushes the answer as a number: 0, or why there is no stop; p is the record of process i, whatever stands there.
 #[tactic(auto, using(machine::proofs::Laws::past))]
 pub fn stop_answer(
-    mut processes: [Process; Machine::PROCESSES as usize],
+    mut processes: Processes,
     i: u8,
     p: Process,
     created: u8,

@@ -1,4 +1,5 @@
-// Who runs and who is ready, for a move that changes more than one part of the machine.
+// Who runs and who is ready, for a move that changes more than one part of the machine. The machine's own `run_nobody` and `wake` are
+// their twins, and not public.
 ghost use Rattle.std.specs.Prelude.{◌≡◌};
 ghost use Rattle.machine.specs.Classes.{set_running, wake};
 
@@ -18,6 +19,5 @@ pub(crate) fn set_running(m: &mut Machine, h: u8)
 pub(crate) fn wake(m: &mut Machine, h: u8)
     ensures { m.new ≡ wake m.old h }
 {
-    let ready = machine::joined(m.ready, machine::class_of(&m.processes, h), h);
-    m.ready = ready;
+    m.ready = machine::joined(m.ready, machine::class_of(&m.processes, h), h);
 }

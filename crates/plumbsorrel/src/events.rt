@@ -9,6 +9,7 @@ use crate::{number, state};
 use image::Refusal;
 use machine::Machine;
 
+// This and `plumbsorrel_bell` are twins: two exported names.
 #[unsafe(no_mangle)]
 pub extern "C" fn plumbsorrel_tick(state: &mut [u16]) -> u64
     ensures { leaves result state.new [] [] ≡ c_tick state.old }
@@ -49,10 +50,7 @@ pub extern "C" fn plumbsorrel_done(
     ensures { leaves result state.new common.new private.new ≡ c_done device status arg common.old private.old state.old }
 {
     match asked(common, private, state) {
-        Ok(m) => {
-            let x = run::done(m, device, status, arg, common, private);
-            state::put_back(x, state)
-        }
+        Ok(m) => state::put_back(run::done(m, device, status, arg, common, private), state),
         Err(r) => number::of_refusal(r),
     }
 }

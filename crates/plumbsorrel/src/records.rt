@@ -15,10 +15,8 @@ use machine::Machine;
 fn check_busy(m: Machine, d: u16) -> Result<(), Refusal>
     ensures { check_says result ≡ refuse 9 (ltb 4 d || not (is_busy m d)) }
 {
-    if 4 < d {
-        return Err(Refusal::Done);
-    }
-    if m.devices[usize::from(d)].process < Machine::NOBODY {
+    let device = m.devices.get(usize::from(d));
+    if device.is_some_and(|x| x.process < Machine::NOBODY) {
         Ok(())
     } else {
         Err(Refusal::Done)

@@ -29,7 +29,7 @@ pub record LoadOutcome : Type 0 where
   pub reply : Reply
   pub after : SetUp
 
--- where the image is refused, the machine beside the refusal is the fresh one of an empty header, and nothing changes
+-- where the image is refused there is no machine: the fresh one of an empty header stands for it here, and nothing changes
 abbrev pub empty : Header
 empty = record { edition = 0; length = 0; devices = 0; variables = 0 }
 

@@ -41,8 +41,7 @@ pub fn done(
     if let Err(refusal) = check_event(m, d, status, common.len(), private.len()) {
         return Offered::refused(m, refusal);
     }
-    let after = kernel::device_done(m, d as u8, status, arg, common, private);
-    Offered::event(after)
+    Offered::event(kernel::device_done(m, d as u8, status, arg, common, private))
 }
 
 // A run: up to a budget of instructions.

@@ -41,6 +41,9 @@ fn quota_of(m: &Machine, budget: u32) -> u32
     if selects(m) { 1 } else { budget }
 }
 
+// That somebody runs is asked of each of four functions below: the machine's type does not hold it, and stays what the theorems
+// speak of.
+
 // A burst of the running process, on its own part of the private store.
 fn burst(m: &Machine, code: &[u16], quota: u32, common: &mut [u16], private: &mut [u16]) -> Burst
     requires { (m.now.running < 10) × ((proc m.now m.now.running).variables ≤ 2048) × (length private.old ≡ 20480) }
@@ -95,7 +98,7 @@ fn follow(m: &Machine, x: Burst, common: &mut [u16], private: &mut [u16]) -> Dec
         End::Call(k) => kernel::decide(who, m.processes, m.gates, k, common, private),
         End::Fault(f) => Decision {
             process,
-            act: Act::Stop(f, process.regs.line),
+            act: Act::Stop(u8::from(f), process.regs.line),
         },
         End::Unfit => Decision {
             process,
@@ -141,6 +144,7 @@ fn ended_of(act: Act) -> Ended
 }
 
 // The selection follows each turn that does not stop; it is made where it changes the machine, since it copies it.
+#[tactic(auto, using(crate::proofs::Course::unless_selects, crate::proofs::Course::when_stopped))]
 fn select_after(m: &mut Machine, ended: Ended)
     ensures { m.new ≡ if (is_stopped (end_of ended)) m.old (select m.old) }
 {

@@ -142,7 +142,7 @@ fn main(rt: HostRuntime) -> io::Result<()> {
         did: false,
     };
     let mut word = [0; 4096];
-    // an argument is asked for by its number: std has no iterator over them
+    // an argument is asked for by its number: `env::args` copies all to the heap and fails at one that is not UTF-8, before an image is run
     for i in 1..usize::MAX {
         match rt.arg(i, &mut word) {
             Ok(n) => command.take(&rt, &word[..n])?,

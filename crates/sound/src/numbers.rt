@@ -33,7 +33,7 @@ fn fit_the_clock(fraction: u16, seconds: u16, stop: u8) -> bool
 fn is_empty(ready: &[Queue; 3]) -> bool
     ensures { result ≡ all_to (λ c. eqb (get_or ready.now c no_queue).len 0) 3 }
 {
-    ready[0].len == 0 && ready[1].len == 0 && ready[2].len == 0
+    ready.iter().all(|q| q.len == 0)
 }
 
 // "Created processes and gates have the lowest numbers, process 0 among them"; "at most one runs"; "Ready is empty when nobody runs".

@@ -14,7 +14,7 @@ fn has_its_class(holds: u8, class: u8) -> bool
     ensures { result ≡ class_for holds class }
 {
     if holds == 0 {
-        1 <= class && class <= 2
+        (1..=2).contains(&class)
     } else {
         class == 0
     }
@@ -46,8 +46,7 @@ fn job_is_ok(r: &Regs, n: u16) -> bool
             && r.saved_b <= Machine::CEILING
             && u32::from(r.c) + u32::from(r.p) <= u32::from(Machine::CEILING)
             && r.saved_address <= n
-            && (r.reason == 0
-                || (Machine::FIRST_REASON <= r.reason && r.reason <= Machine::LAST_REASON))
+            && (r.reason == 0 || (Machine::FIRST_REASON..=Machine::LAST_REASON).contains(&r.reason))
     } else {
         r.c == Machine::CEILING && r.reason == 0
     }
@@ -85,7 +84,7 @@ fn is_ok(
         && job_is_ok(&p.regs, n)
 }
 
-// The created processes.
+// The created processes. With bytes for numbers, by `(0..).zip(processes)`, the search did not find that each is below 10.
 pub(crate) fn are_ok(
     n: u16,
     holders: &[u8; Machine::GATES as usize],

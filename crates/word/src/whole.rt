@@ -60,25 +60,18 @@ pub(crate) fn mul(a: u16, b: u16) -> Result<u16, Fault>
     fitted(value(a) * value(b))
 }
 
-// DIV and MOD share the test alone.
 #[tactic(auto, using(crate::proofs::Words::quotients))]
 pub(crate) fn div(a: u16, b: u16) -> Result<u16, Fault>
     ensures { said result ≡ div_w a b }
 {
-    if b == 0 {
-        return Err(Fault::Overflow);
-    }
-    fitted(value(a) / value(b))
+    fitted(value(a).checked_div(value(b)).ok_or(Fault::Overflow)?)
 }
 
 #[tactic(auto, using(crate::proofs::Words::quotients))]
 pub(crate) fn modulo(a: u16, b: u16) -> Result<u16, Fault>
     ensures { said result ≡ mod_w a b }
 {
-    if b == 0 {
-        return Err(Fault::Overflow);
-    }
-    fitted(value(a) % value(b))
+    fitted(value(a).checked_rem(value(b)).ok_or(Fault::Overflow)?)
 }
 
 #[tactic(auto, using(crate::proofs::Words::values))]

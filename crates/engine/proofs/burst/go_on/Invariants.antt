@@ -11,4 +11,4 @@ abbrev pub invariant-loop-count : goal.invariant-loop-count
 invariant-loop-count l =
     Fit (seen l.v.0.now l.v.1.0 l.v.1.1.0 l.v.1.1.1.0 l.common l.own)
     × (length l.v.0.now ≤ 16256)
-    × (goes_on 0 l.budget (seen l.code l.floor l.holding l.fn.r l.initial.common l.initial.own) ≡ goes_on l.count (l.budget - l.count) (seen l.v.0.now l.v.1.0 l.v.1.1.0 l.v.1.1.1.0 l.common l.own))
+    × (goes_on 0 l.budget (seen l.initial.v.0.now l.initial.v.1.0 l.initial.v.1.1.0 l.initial.v.1.1.1.0 l.initial.common l.initial.own) ≡ goes_on l.count (l.budget - l.count) (seen l.v.0.now l.v.1.0 l.v.1.1.0 l.v.1.1.1.0 l.common l.own))

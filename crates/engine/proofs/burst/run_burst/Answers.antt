@@ -4,7 +4,7 @@ use borrow.Author.Tests.{not-true}
 use Rattle.machine.specs.View.{View}
 use Rattle.engine.specs.Did.{seen}
 use Rattle.engine.specs.Burst.{bursts}
-use Rattle.engine.proofs.Turns.{told}
+use Rattle.engine.proofs.Turns.{told, high, near, saved}
 use Rattle.engine.proofs.burst.run_burst.Goals as goal
 
 pub returns-then-not-is_fit : goal.returns-then-not-is_fit
@@ -20,6 +20,20 @@ pub unwrap-own-requires : goal.unwrap-own-requires
 unwrap-own-requires c =
     let v : View = seen c.args.code.now c.args.floor c.args.holding c.args.r c.args.common.now c.args.own.now in
     c.as_mut_array-2.ensures.variant.1 (told v (sym (c.is_fit.ensures v.holding v.common v.own refl refl) ∙ c.if-not-is_fit.false)).0.own
+
+pub invariant_of-v : goal.invariant_of-v
+invariant_of-v c =
+    let w : View = seen c.args.code.now c.args.floor c.args.holding c.args.r c.args.common.now c.args.own.now in
+    let (fit, small) = told w (sym (c.is_fit.ensures w.holding w.common w.own refl refl) ∙ c.if-not-is_fit.false) in
+    record {
+      low = fit.ordered.low;
+      floored = fit.ordered.stack;
+      framed = fit.ordered.frame;
+      topped = fit.ordered.ceiling;
+      high = high _ fit small;
+      near = near _ fit small;
+      saved = saved _ fit small;
+    }
 
 pub go_on-requires : goal.go_on-requires
 go_on-requires c =

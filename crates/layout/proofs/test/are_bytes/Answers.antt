@@ -1,18 +1,15 @@
--- The invariant: ok says the test of the first k passed.
-use Rattle.notation.specs.Upto.{all_to}
+use lib.Dec.{ltb}
+use mathlib.Core.Bool.{true, ◌&&◌}
+use mathlib.Core.Path.{◌∙◌}
 use borrow.Author.Rules.{rules}
-use native.Mathlib.Numerals.{add-one}
-use mathlib.Core.Path.{◌≡◌}
-use native.Mathlib.Omega.{arith}
+use Rattle.std.proofs.lemmas.Iterator.{YieldsList-from_slice}
+use Rattle.std.proofs.lemmas.Iterator.Consumers.{fold_from_yields_List}
+use Rattle.layout.proofs.Tests.{bytes_row}
 use Rattle.layout.proofs.test.are_bytes.Goals as goal
 
-pub loop-k-init : goal.loop-k-init
-unfolding all_to
-loop-k-init c = search rules
-
-pub loop-k-preserved : goal.loop-k-preserved
-unfolding all_to
-loop-k-preserved c = rw add-one (cc)
-
 pub returns : goal.returns
-returns c = let e : c.loop-k.k ≡ c.args.n = omega arith in cc
+returns c =
+    fold_from_yields_List _ (λ ok w. ok && ltb w 256) true c.fold.result c.fold.ensures.ran
+    (YieldsList-from_slice _ c.iter.ensures.rest)
+    (λ a x b q k. search rules)
+    ∙ bytes_row c.args.words.now c.args.at c.args.n (search rules)

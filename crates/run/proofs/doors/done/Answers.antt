@@ -14,4 +14,4 @@ pub overflow_cast-d : goal.overflow_cast-d
 overflow_cast-d c = let v = L.event_passed c.check_event.result c.args.m c.args.d c.args.status c.args.common.now c.args.private.now c.check_event.ensures c.in_default.is in omega (arith, v.device)
 
 pub returns : goal.returns
-returns c = rw c.event.ensures (L.event_taken c.check_event.result c.args.m c.args.d c.args.status c.args.common.now c.args.private.now c.check_event.ensures c.in_default.is c.args.arg _ _ _ c.device_done-after.ensures)
+returns c = rw c.event.ensures (L.event_taken c.check_event.result c.args.m c.args.d c.args.status c.args.common.now c.args.private.now c.check_event.ensures c.in_default.is c.args.arg _ _ _ c.device_done.ensures)

@@ -22,7 +22,7 @@ returns-in-Budget c =
     c.in-Budget.is
 
 pub returns-in-Fault : goal.returns-in-Fault
-returns-in-Fault c = rw (c.in-Fault.is, c.caller_after-who.ensures.told, same_process (moved_on c.args.m.now c.args.x.regs))
+returns-in-Fault c = rw (c.in-Fault.is, c.from.ensures, c.caller_after-who.ensures.told, same_process (moved_on c.args.m.now c.args.x.regs))
 
 pub returns-in-Unfit : goal.returns-in-Unfit
 returns-in-Unfit c = rw (c.in-Unfit.is, c.caller_after-who.ensures.told, same_process (moved_on c.args.m.now c.args.x.regs))
