@@ -32,5 +32,10 @@ pub fn unpack(words: &[u16]) -> Option<Machine>
     ensures { result ≡ unpacked_if words.now }
 {
     let words = words.as_array()?;
-    test::fit(words).then(|| whole::get(words))
+    // Not by `then`: each function that the machine is handed through copies it once more.
+    if test::fit(words) {
+        Some(whole::get(words))
+    } else {
+        None
+    }
 }

@@ -9,12 +9,13 @@ use borrow.Author.Tests.{eq-eqb}
 use Rattle.notation.specs.If.{if}
 use Rattle.notation.proofs.Upto.{split}
 use Rattle.image.specs.declared.table.Refusal.{Refusal}
-use Rattle.std.specs.Prelude.{Result, Ok, Err, Option, ok_or, IsErrAnd}
+use Rattle.std.specs.Prelude.{Result, Ok, Err, Option, Some, None, ok_or, IsErrAnd}
 use Rattle.image.specs.Refusal.{Reply, taken, refused_by, number_of, ◌then◌}
 use Rattle.image.proofs.Laws.{err_is}
 use Rattle.image.specs.declared.table.Refusal.TheVariants.{Unsound}
 use Rattle.machine.specs.declared.Machine.{Machine}
 use Rattle.machine.specs.Store.{World}
+use Rattle.machine.specs.Sound.{sound}
 use Rattle.machine.specs.Offer.{Offered, did, refuses}
 use Rattle.layout.specs.Layout.{packed, unpacked, fits, unpacked_if, state_words}
 use Rattle.layout.proofs.Laws.{fitting}
@@ -23,7 +24,7 @@ use Rattle.run.specs.declared.answer.Offered.{Offered as Given}
 use Rattle.run.specs.Said.{world, Outcome, given, outcome, answer_of}
 use Rattle.plumbsorrel.specs.Number.{answer_number}
 use Rattle.plumbsorrel.specs.Offers.{leaves, left, crossed, unknown}
-use Rattle.plumbsorrel.specs.Asked.{Says}
+use Rattle.plumbsorrel.specs.Asked.{Says, not_sound}
 
 -- ---- the answer and the new words are those that the definition leaves
 leaves-left :
@@ -59,6 +60,19 @@ unfolding unpacked_if
 known_says u state x e f =
     split (fits state)
     (λ t. rw (f, e, t) (record { reply = refl; known = t; machine = refl }))
+    (λ t. rw (f, e, t) (record { reply = refl; known = tt; machine = tt }))
+
+abbrev sound_of : Option Machine → Result Machine Refusal
+sound_of (Some m) = if (sound m) (Ok m) (Err Unsound)
+sound_of None = Err Unsound
+
+pub sound_says : (u : Option Machine) (state : List ℕ) (x : Result Machine Refusal) → u ≡ unpacked_if state → x ≡ sound_of u → Says x (not_sound state) state
+unfolding unpacked_if
+sound_says u state x e f =
+    split (fits state)
+    (λ t. split (sound (unpacked state))
+    (λ s. rw (f, e, t, s) (record { reply = refl; known = t; machine = refl }))
+    (λ s. rw (f, e, t, s) (record { reply = refl; known = tt; machine = tt })))
     (λ t. rw (f, e, t) (record { reply = refl; known = tt; machine = tt }))
 
 -- a check that refuses ends them; one that passes hands them on

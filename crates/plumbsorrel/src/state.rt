@@ -17,18 +17,20 @@ use run::Offered;
 pub(crate) fn known(state: &[u16]) -> Result<Machine, Refusal>
     ensures { Says result (unknown state.now) state.now }
 {
-    layout::unpack(state).ok_or(Refusal::Unsound)
+    // Not by `ok_or`, nor below by `?`: each function that the machine is handed through copies it once more.
+    match layout::unpack(state) {
+        Some(m) => Ok(m),
+        None => Err(Refusal::Unsound),
+    }
 }
 
 // 7: the words are no machine's, or its state is not sound.
 pub(crate) fn known_sound(state: &[u16]) -> Result<Machine, Refusal>
     ensures { Says result (not_sound state.now) state.now }
 {
-    let m = known(state)?;
-    if sound::is_sound(m) {
-        Ok(m)
-    } else {
-        Err(Refusal::Unsound)
+    match layout::unpack(state) {
+        Some(m) if sound::is_sound(m) => Ok(m),
+        _ => Err(Refusal::Unsound),
     }
 }
 

@@ -2,7 +2,7 @@
 use crate::options::Options;
 use image::Refusal;
 use machine::Machine;
-use run::Ended;
+use run::{Ended, Offered};
 use std::io;
 
 // The ticks that are given, in all, while nobody runs and somebody waits for the clock: 100 seconds.
@@ -50,6 +50,18 @@ impl Bench<'_> {
         Ok(())
     }
 
+    // A turn's instructions, compiled by themselves: within `follow` the run's loop keeps its registers in memory.
+    #[inline(never)]
+    fn turn(&mut self, quota: u32) -> Offered {
+        run::run(
+            self.machine,
+            self.code,
+            quota,
+            &mut self.common,
+            &mut self.private,
+        )
+    }
+
     // The end, where a turn is the last. Who idles goes on: the next turn, which then counts nothing, sees to the clock.
     fn end_of(
         &mut self,
@@ -78,13 +90,7 @@ impl Bench<'_> {
         // a `while`: a turn counts as many as it will
         while count < o.budget {
             let quota = next.min(o.budget - count);
-            let turn = run::run(
-                self.machine,
-                self.code,
-                quota,
-                &mut self.common,
-                &mut self.private,
-            );
+            let turn = self.turn(quota);
             let n = turn.count.min(quota);
             self.machine = turn.machine;
             count += n;
