@@ -11,6 +11,7 @@ use lib.Seq.{take-suc}
 use Rattle.std.specs.Fmt.{decimal}
 use Rattle.std.proofs.Common.{lit<}
 use Rattle.std.proofs.lemmas.Fmt.{AppendsLastDigit, decimal_from_appends, length-decimal-le}
+use Rattle.std.proofs.Math.Seq.{take-length}
 use Rattle.shown.specs.declared.line.Line.{Line}
 use Rattle.shown.specs.Line.{pushed, put_all, digits_in}
 
@@ -38,6 +39,11 @@ last_behind = record {
   more = λ k n h. rw (le-ltb n 10 h);
 }
 
--- the digits that std writes of a number
-pub digits : (n : ℕ) → n < 2 ^ 64 → decimal n ≡ digits_in 20 n
-digits n h = sym (decimal_from_appends digits_in last_behind 20 n h (length-decimal-le 20 n (lit< tt) (omega arith) h))
+-- the digits that std writes of a number, and that all of them are all
+pub spelled : (n : ℕ) → n < 2 ^ 64 → decimal n ≡ digits_in 20 n
+spelled n h = sym (decimal_from_appends digits_in last_behind 20 n h (length-decimal-le 20 n (lit< tt) (omega arith) h))
+
+pub all_taken : (l : List ℕ) → take (length l) l ≡ l
+all_taken l = take-length l
+
+pub ruleset digits = (spelled, all_taken)
